@@ -1,0 +1,1 @@
+// Mathematics only: finite sums, the ring normaliser, congruence and machine words stand in specs/ and proofs/.

@@ -1,0 +1,78 @@
+-- Why a transform is refused, in the order of the checks; and the number, place and layer of each fault. Assumes nothing.
+use mathlib.Core.Bool.{cond}
+use mathlib.Core.List.{List}
+use Prim.Native.Nat.{ℕ}
+use lib.Dec.{leb, ltb, eqb}
+use lib.IntN.{ℤ, natAbs}
+use lib.ListN.{length}
+use Rattle.std.specs.shelf.Lists.{leading}
+use Rattle.std.specs.Options.{mapped}
+use Rattle.std.specs.declared.option.Option.{Option}
+use Rattle.std.specs.declared.option.Option.the-variants.{Some, None}
+use Rattle.std.specs.declared.result.Result.{Result}
+use Rattle.std.specs.declared.result.Result.the-variants.{Ok, Err}
+use Rattle.kernel.specs.declared.fault.Layer.{Layer}
+use Rattle.kernel.specs.declared.fault.Layer.the-variants as at
+use Rattle.kernel.specs.declared.fault.Unfit.{Unfit as Unfitness}
+use Rattle.kernel.specs.declared.fault.Unfit.the-variants.{NoShortKernel, SharedDivisor, TooLong, TooMuchGain}
+use Rattle.kernel.specs.declared.fault.KernelFault.{KernelFault}
+use Rattle.kernel.specs.declared.fault.KernelFault.the-variants.{Unfit, BlockLength, ImageLength, Reading}
+use Rattle.kernel.specs.declared.told.Told.{Told}
+use Rattle.kernel.specs.Meaning.{Meaning, told}
+
+-- how many readings stand before the first that is larger in size than the limit
+abbrev pub within : ℕ → List ℤ → ℕ
+within limit r = leading (λ x. leb (natAbs x) limit) r
+
+-- the index of the first reading that is larger in size than the limit
+abbrev pub firstAbove : ℕ → List ℤ → Option ℕ
+firstAbove limit r = cond (ltb (within limit r) (length r)) (Some (within limit r)) None
+
+-- what refuses a block and an image of length k, where a kernel tells these figures: it is unfit, the block's length, the
+-- image's length, the first reading above the limit
+abbrev pub refused : Told → Layer → List ℤ → ℕ → Option KernelFault
+refused t layer r k =
+    elim (t .fault) [
+      Some f ↦ Some (Unfit f)
+    | None ↦
+      cond (eqb (length r) (t .length))
+      (cond (eqb k (t .length)) (mapped (Reading layer) (firstAbove (t .limit) r)) (Some (ImageLength layer k)))
+      (Some (BlockLength layer (length r))) ]
+
+abbrev pub refusal : Meaning → List ℤ → ℕ → Option KernelFault
+refusal m r k = refused (told m) (m .layer) r k
+
+-- the answer of a call, and what a buffer then holds
+abbrev pub answered : {X F : Type 0} → X → Option F → Result X F
+answered x None = Ok x
+answered x (Some f) = Err f
+
+abbrev pub granted : {X F : Type 0} → Option F → X → X → X
+granted None new old = new
+granted (Some f) new old = old
+
+-- number, place and layer of a fault
+pub record Code : Type 0 where
+  pub number : ℕ
+  pub place : ℕ
+  pub layer : Layer
+
+abbrev pub code : ℕ → ℕ → Layer → Code
+code number place layer = record { number = number; place = place; layer = layer }
+
+abbrev pub unfitCode : Unfitness → Code
+unfitCode (NoShortKernel n) = code 1 n at.Short
+unfitCode (SharedDivisor d) = code 2 d at.Product
+unfitCode (TooLong n) = code 3 n at.Product
+unfitCode (TooMuchGain g) = code 4 g at.Product
+
+abbrev pub kernelCode : KernelFault → Code
+kernelCode (Unfit f) = unfitCode f
+kernelCode (BlockLength layer n) = code 7 n layer
+kernelCode (ImageLength layer n) = code 8 n layer
+kernelCode (Reading layer i) = code 9 i layer
+
+-- k for a short kernel and p for a product
+abbrev pub letterOf : Layer → ℕ
+letterOf at.Short = 107
+letterOf at.Product = 112

@@ -1,0 +1,5 @@
+pub mod Lengths
+pub mod Rows
+pub mod Right
+pub mod Duals
+pub mod Laws

@@ -1,0 +1,58 @@
+-- A row of a table: its length and its entries. Assumes nothing.
+use mathlib.Core.Bool.{Bool, true, false, cond}
+use mathlib.Core.List.{List, [], _++_, map}
+use mathlib.Core.Path.{_≡_, refl, sym, ap, _∙_}
+use Prim.Native.Nat.{ℕ, _-_, _*_, _/_, _%_, _<_}
+use native.Mathlib.Nat.{mod-lt, mod-mod}
+use native.Mathlib.Omega.{arith}
+use lib.Dec.{eqb}
+use lib.IntN.{ℤ, pos}
+use lib.ListN.{length, getD, take, drop}
+use Rattle.std.specs.declared.option.Option.{Option}
+use Rattle.std.specs.declared.option.Option.the-variants.{Some, None}
+use Rattle.std.proofs.shelf.Counted.{length-map-counting, getD-map-counting}
+use Rattle.std.proofs.shelf.Tests.{ne-eqb}
+use Rattle.tables.specs.Entries.{isShort, rowOf, entryOf, C, S}
+use Rattle.tables.specs.declared.scale.Scale.{Scale}
+use Rattle.tables.proofs.Lengths.{bounds, each}
+
+module _ (table : ℕ → ℕ → ℤ) (N : ℕ) where
+  pub row-none : isShort N ≡ false → rowOf table N ≡ []
+  unfolding rowOf
+  row-none e = rw e
+
+  pub row-length : isShort N ≡ true → length (rowOf table N) ≡ N
+  unfolding rowOf
+  row-length e = rw e (length-map-counting (table N) 0 N)
+
+  pub row-at : isShort N ≡ true → (i : ℕ) → i < N → getD (rowOf table N) i (pos 0) ≡ table N i
+  unfolding rowOf
+  row-at e i h = rw e (getD-map-counting (table N) 0 N i i (pos 0) h (omega arith))
+
+  pub row-entry : ((m : ℕ) → table N (m % N) ≡ table N m) → (m : ℕ) → entryOf (rowOf table N) m ≡ cond (isShort N) (Some (table N m)) None
+  row-entry period m = go (isShort N) refl
+    where
+      go : (b : Bool) → isShort N ≡ b → entryOf (rowOf table N) m ≡ cond b (Some (table N m)) None
+      go true e =
+          let l = row-length e in
+          let some : eqb (length (rowOf table N)) 0 ≡ false = ne-eqb _ _ (omega (arith, bounds N e .0)) in
+          let at = row-at e (m % N) (mod-lt m {m = N} (omega (arith, bounds N e .0))) in
+          rw (some, l, at, period m)
+      go false e = rw (row-none e)
+
+-- the rows of lengths 3 to 9, one after the other
+abbrev pub allRows : (ℕ → ℕ → ℤ) → List ℤ
+allRows t = rowOf t 3 ++ rowOf t 4 ++ rowOf t 5 ++ rowOf t 6 ++ rowOf t 7 ++ rowOf t 8 ++ rowOf t 9
+
+pub row-cut : (t : ℕ → ℕ → ℤ) (N : ℕ) → isShort N ≡ true → take N (drop (N * (N - 1) / 2 - 3) (allRows t)) ≡ rowOf t N
+unfolding rowOf
+row-cut t N e =
+    each (λ n. take n (drop (n * (n - 1) / 2 - 3) (allRows t)) ≡ rowOf t n) (refl, refl, refl, refl, refl, refl, refl) N e
+
+pub C-period : (s : Scale) (N m : ℕ) → C s N (m % N) ≡ C s N m
+unfolding C
+C-period s N m = rw mod-mod
+
+pub S-period : (s : Scale) (N m : ℕ) → S s N (m % N) ≡ S s N m
+unfolding S
+S-period s N m = rw mod-mod
