@@ -13,14 +13,14 @@ use Rattle.algebra.proofs.Integers.{dist-l, dist-r, *ℤ-assoc, neg-mul-l, neg
 infixl 60 _⊕_ _⊖_
 infixl 70 _⊗_
 pub data Exp : Type 0 where
-  v : ℕ → Exp
-  k : ℤ → Exp
+  var : ℕ → Exp
+  lit : ℤ → Exp
   _⊕_ _⊖_ _⊗_ : Exp → Exp → Exp
   neg : Exp → Exp
 
 abbrev pub ev : List ℤ → Exp → ℤ
-ev ρ (v i) = getD ρ i (pos 0)
-ev ρ (k c) = c
+ev ρ (var i) = getD ρ i (pos 0)
+ev ρ (lit c) = c
 ev ρ (a ⊕ b) = ev ρ a +ℤ ev ρ b
 ev ρ (a ⊖ b) = ev ρ a -ℤ ev ρ b
 ev ρ (a ⊗ b) = ev ρ a *ℤ ev ρ b
@@ -70,8 +70,8 @@ mulP nil q = nil
 mulP (term c m p) q = addP (mulT c m q) (mulP p q)
 
 abbrev pub nf : Exp → Poly
-nf (v i) = term (pos 1) (i ∷ []) nil
-nf (k c) = term c [] nil
+nf (var i) = term (pos 1) (i ∷ []) nil
+nf (lit c) = term c [] nil
 nf (a ⊕ b) = addP (nf a) (nf b)
 nf (a ⊖ b) = addP (nf a) (mulT (negsuc 0) [] (nf b))
 nf (a ⊗ b) = mulP (nf a) (nf b)
@@ -152,8 +152,8 @@ module _ (ρ : List ℤ) where
 
   nf-ok : (e : Exp) → evP ρ (nf e) ≡ ev ρ e
   unfolding evP evM
-  nf-ok (v i) = alone (getD ρ i (pos 0))
-  nf-ok (k c) = omega (arith, ints)
+  nf-ok (var i) = alone (getD ρ i (pos 0))
+  nf-ok (lit c) = omega (arith, ints)
   nf-ok (a ⊕ b) = addP-ok (nf a) (nf b) ∙ rw (nf-ok a, nf-ok b)
   nf-ok (a ⊖ b) = addP-ok (nf a) (mulT (negsuc 0) [] (nf b)) ∙ rw (mulT-ok (negsuc 0) [] (nf b), nf-ok a, nf-ok b) (ap (λ x. ev ρ a +ℤ x) (one-by (ev ρ b)))
   nf-ok (a ⊗ b) = mulP-ok (nf a) (nf b) ∙ rw (nf-ok a, nf-ok b)

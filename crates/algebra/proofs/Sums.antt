@@ -2,6 +2,7 @@ use mathlib.Core.Path.{_≡_, refl, sym, _∙_, ap, subst}
 use Prim.Native.Nat.{ℕ, zero, suc, _+_, _*_, _≤_, _<_}
 use native.Mathlib.Omega.{arith}
 use native.Mathlib.Nat.{zero-mul, suc-mul}
+use native.Mathlib.Numerals.{add-one}
 use lib.IntN.{ℤ, pos, negsuc, negℤ, natAbs, _+ℤ_, _-ℤ_, _*ℤ_, *ℤ-comm, *ℤ-zero, zero-*ℤ, +ℤ-idl, +ℤ-idr}
 use mathlib.Core.Logic.{_≢_}
 use native.Mathlib.Decide.{ℕ-discrete}
@@ -68,3 +69,7 @@ unfolding Σ
 Σ-single (suc n) j f l h = elim (ℕ-discrete j n) [
     yes e ↦ rw (Σ-none n f (λ k q. h k (omega arith) (omega arith)), e, +ℤ-idl)
   | no u ↦ rw (Σ-single n j f (omega arith) (λ k q w. h k (omega arith) w), h n (omega arith) (omega arith), +ℤ-idr) ]
+
+pub Σ-more : (n : ℕ) (f : ℕ → ℤ) → Σ (n + 1) f ≡ Σ n f +ℤ f n
+unfolding Σ
+Σ-more n f = rw add-one

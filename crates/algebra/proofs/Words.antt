@@ -1,52 +1,61 @@
--- Signed 64-bit expressions: where sizes leave room at every step, the code's term is the whole number. Assumes nothing.
-use mathlib.Core.Path.{_≡_, refl, sym, ap, _∙_}
+-- Signed 64-bit expressions: where sizes leave room at every step, what the machine works out is the whole number.
+-- Assumes nothing.
+use mathlib.Core.Path.{_≡_, refl, sym, _∙_}
 use mathlib.Core.List.{List, [], _∷_}
-use mathlib.Core.Bool.{Bool, true, false, _&&_}
+use mathlib.Core.Bool.{Bool, _&&_}
 use Prim.Native.Nat.{ℕ, zero, suc, _+_, _*_, _<_, _≤_, _^_}
 use native.Mathlib.Nat.{mul-le-mul}
 use native.Mathlib.Omega.{arith}
 use lib.Dec.{T, ltb, ltb→lt, lit≤}
 use lib.ListN.{getD}
-use lib.IntN.{ℤ, pos, negsuc, negℤ, natAbs, _+ℤ_, _-ℤ_, _*ℤ_}
-use mir.Val.{SFits, toZ, ofZ}
+use lib.IntN.{ℤ, pos, natAbs, negℤ, _+ℤ_, _-ℤ_, _*ℤ_}
 use mir.Syntax.{w64}
+use mir.Val.{SFits, toZ, ofZ}
 use Rattle.std.proofs.shelf.Signed.{ints, toZ-ofZ}
+use Rattle.algebra.specs.Sums.{Σ}
 use Rattle.algebra.proofs.Integers.{abs-mul}
-use Rattle.algebra.proofs.Ring.{Exp, v, k, _⊕_, _⊖_, _⊗_, neg, ev}
+use Rattle.algebra.proofs.Ring.{Exp, var, lit, _⊕_, _⊖_, _⊗_, neg, ev}
+use Rattle.algebra.proofs.Sums.{Σ-more, Σ-bound}
+use Rattle.algebra.proofs.Tests.{both}
 
--- a number that went to bits and back
-abbrev pub bit : ℤ → ℤ
-bit z = toZ w64 (ofZ w64 z)
+-- a number that was stored in a word and read again
+abbrev pub word : ℤ → ℤ
+word z = toZ w64 (ofZ w64 z)
 
--- an expression as the code works it
+pub word-fits : (z : ℤ) → natAbs z < 2 ^ 63 → SFits w64 z
+word-fits z h = omega (arith, ints)
+
+pub word-is : (z : ℤ) → natAbs z < 2 ^ 63 → word z ≡ z
+word-is z h = toZ-ofZ w64 z (word-fits z h)
+
+-- an expression as the machine works it, each operand through a word
 abbrev pub run : List ℤ → Exp → ℤ
-run ρ (v i) = getD ρ i (pos 0)
-run ρ (k c) = c
-run ρ (a ⊕ b) = bit (run ρ a) +ℤ bit (run ρ b)
-run ρ (a ⊖ b) = bit (run ρ a) -ℤ bit (run ρ b)
-run ρ (a ⊗ b) = bit (run ρ a) *ℤ bit (run ρ b)
-run ρ (neg a) = pos 0 -ℤ bit (run ρ a)
+run ρ (var i) = getD ρ i (pos 0)
+run ρ (lit c) = c
+run ρ (a ⊕ b) = word (run ρ a) +ℤ word (run ρ b)
+run ρ (a ⊖ b) = word (run ρ a) -ℤ word (run ρ b)
+run ρ (a ⊗ b) = word (run ρ a) *ℤ word (run ρ b)
+run ρ (neg a) = pos 0 -ℤ word (run ρ a)
 
 -- a bound of its size, from bounds of the variables
 abbrev pub size : List ℕ → Exp → ℕ
-size β (v i) = getD β i 0
-size β (k c) = natAbs c
+size β (var i) = getD β i 0
+size β (lit c) = natAbs c
 size β (a ⊕ b) = size β a + size β b
 size β (a ⊖ b) = size β a + size β b
 size β (a ⊗ b) = size β a * size β b
 size β (neg a) = size β a
 
-abbrev room : List ℕ → Exp → Bool
-room β e = ltb (size β e) (2 ^ 63)
+-- every part of it has room in a word
+abbrev pub roomy : List ℕ → Exp → Bool
+roomy β (var i) = ltb (getD β i 0) (2 ^ 63)
+roomy β (lit c) = ltb (natAbs c) (2 ^ 63)
+roomy β (a ⊕ b) = (roomy β a && roomy β b) && ltb (size β (a ⊕ b)) (2 ^ 63)
+roomy β (a ⊖ b) = (roomy β a && roomy β b) && ltb (size β (a ⊖ b)) (2 ^ 63)
+roomy β (a ⊗ b) = (roomy β a && roomy β b) && ltb (size β (a ⊗ b)) (2 ^ 63)
+roomy β (neg a) = roomy β a && ltb (size β a) (2 ^ 63)
 
-abbrev pub fine : List ℕ → Exp → Bool
-fine β (v i) = room β (v i)
-fine β (k c) = room β (k c)
-fine β (a ⊕ b) = fine β a && fine β b && room β (a ⊕ b)
-fine β (a ⊖ b) = fine β a && fine β b && room β (a ⊖ b)
-fine β (a ⊗ b) = fine β a && fine β b && room β (a ⊗ b)
-fine β (neg a) = fine β a && room β (neg a)
-
+-- no variable is larger in size than its bound
 abbrev pub Bounded : List ℤ → List ℕ → Type 0
 Bounded [] [] = Unit {0}
 Bounded [] (b ∷ β) = ⊥
@@ -59,20 +68,6 @@ bounded-at [] (b ∷ β) h i = absurd h
 bounded-at (x ∷ ρ) [] h i = absurd h
 bounded-at (x ∷ ρ) (b ∷ β) h zero = h .0
 bounded-at (x ∷ ρ) (b ∷ β) h (suc i) = bounded-at ρ β (h .1) i
-
-pub fit : (z : ℤ) → natAbs z < 2 ^ 63 → SFits w64 z
-fit z h = omega (arith, ints)
-
-pub back : (z : ℤ) → natAbs z < 2 ^ 63 → bit z ≡ z
-back z h = toZ-ofZ w64 z (fit z h)
-
-l : (a b : Bool) → T (a && b) → T a
-l true b t = tt
-l false b t = t
-
-r : (a b : Bool) → T (a && b) → T b
-r true b t = t
-r false b t = absurd t
 
 abs-add : (x y : ℤ) → natAbs (x +ℤ y) ≤ natAbs x + natAbs y
 abs-add x y = omega (arith, ints)
@@ -88,41 +83,52 @@ less x = omega (arith, ints)
 
 module _ (ρ : List ℤ) (β : List ℕ) (h : Bounded ρ β) where
   small : (e : Exp) → natAbs (ev ρ e) ≤ size β e
-  small (v i) = bounded-at ρ β h i
-  small (k c) = omega arith
+  small (var i) = bounded-at ρ β h i
+  small (lit c) = omega arith
   small (a ⊕ b) = omega (arith, abs-add (ev ρ a) (ev ρ b), small a, small b)
   small (a ⊖ b) = omega (arith, abs-sub (ev ρ a) (ev ρ b), small a, small b)
   small (a ⊗ b) = rw abs-mul (mul-le-mul (small a) (small b))
   small (neg a) = rw abs-neg (small a)
 
-  fine-room : (e : Exp) → T (fine β e) → T (room β e)
-  fine-room (v i) t = t
-  fine-room (k c) t = t
-  fine-room (a ⊕ b) t = r (fine β a && fine β b) (room β (a ⊕ b)) t
-  fine-room (a ⊖ b) t = r (fine β a && fine β b) (room β (a ⊖ b)) t
-  fine-room (a ⊗ b) t = r (fine β a && fine β b) (room β (a ⊗ b)) t
-  fine-room (neg a) t = r (fine β a) (room β (neg a)) t
+  below : (e : Exp) → T (roomy β e) → natAbs (ev ρ e) < 2 ^ 63
+  below e t = omega (arith, small e, ltb→lt (size β e) (2 ^ 63) (last e t))
+    where
+      last : (e : Exp) → T (roomy β e) → T (ltb (size β e) (2 ^ 63))
+      last (var i) t = t
+      last (lit c) t = t
+      last (a ⊕ b) t = both (roomy β a && roomy β b) (ltb (size β (a ⊕ b)) (2 ^ 63)) t .1
+      last (a ⊖ b) t = both (roomy β a && roomy β b) (ltb (size β (a ⊖ b)) (2 ^ 63)) t .1
+      last (a ⊗ b) t = both (roomy β a && roomy β b) (ltb (size β (a ⊗ b)) (2 ^ 63)) t .1
+      last (neg a) t = both (roomy β a) (ltb (size β a) (2 ^ 63)) t .1
 
-  below : (e : Exp) → T (fine β e) → natAbs (ev ρ e) < 2 ^ 63
-  below e t = omega (arith, small e, ltb→lt (size β e) (2 ^ 63) (fine-room e t))
+  parts : (a b : Exp) (c : Bool) → T ((roomy β a && roomy β b) && c) → T (roomy β a) × T (roomy β b)
+  parts a b c t = both (roomy β a) (roomy β b) (both (roomy β a && roomy β b) c t .0)
 
-  given : (e : Exp) → T (fine β e) → run ρ e ≡ ev ρ e → bit (run ρ e) ≡ ev ρ e
-  given e t q = rw q (back (ev ρ e) (below e t))
+  stored : (e : Exp) → T (roomy β e) → run ρ e ≡ ev ρ e → word (run ρ e) ≡ ev ρ e
+  stored e t q = rw q (word-is (ev ρ e) (below e t))
 
-  same : (e : Exp) → T (fine β e) → run ρ e ≡ ev ρ e
-  same (v i) t = refl
-  same (k c) t = refl
-  same (a ⊕ b) t = rw (given a (l (fine β a) (fine β b) (l (fine β a && fine β b) (room β (a ⊕ b)) t)) (same a (l (fine β a) (fine β b) (l (fine β a && fine β b) (room β (a ⊕ b)) t))), given b (r (fine β a) (fine β b) (l (fine β a && fine β b) (room β (a ⊕ b)) t)) (same b (r (fine β a) (fine β b) (l (fine β a && fine β b) (room β (a ⊕ b)) t))))
-  same (a ⊖ b) t = rw (given a (l (fine β a) (fine β b) (l (fine β a && fine β b) (room β (a ⊖ b)) t)) (same a (l (fine β a) (fine β b) (l (fine β a && fine β b) (room β (a ⊖ b)) t))), given b (r (fine β a) (fine β b) (l (fine β a && fine β b) (room β (a ⊖ b)) t)) (same b (r (fine β a) (fine β b) (l (fine β a && fine β b) (room β (a ⊖ b)) t))))
-  same (a ⊗ b) t = rw (given a (l (fine β a) (fine β b) (l (fine β a && fine β b) (room β (a ⊗ b)) t)) (same a (l (fine β a) (fine β b) (l (fine β a && fine β b) (room β (a ⊗ b)) t))), given b (r (fine β a) (fine β b) (l (fine β a && fine β b) (room β (a ⊗ b)) t)) (same b (r (fine β a) (fine β b) (l (fine β a && fine β b) (room β (a ⊗ b)) t))))
-  same (neg a) t = rw (given a (l (fine β a) (room β (neg a)) t) (same a (l (fine β a) (room β (neg a)) t))) (less (ev ρ a))
+  -- what the machine works out is the whole number, before it is stored and after; it fits, and has its size
+  pub run-is : (e : Exp) → T (roomy β e) → run ρ e ≡ ev ρ e
+  run-is (var i) t = refl
+  run-is (lit c) t = refl
+  run-is (a ⊕ b) t = let p = parts a b _ t in rw (stored a (p .0) (run-is a (p .0)), stored b (p .1) (run-is b (p .1)))
+  run-is (a ⊖ b) t = let p = parts a b _ t in rw (stored a (p .0) (run-is a (p .0)), stored b (p .1) (run-is b (p .1)))
+  run-is (a ⊗ b) t = let p = parts a b _ t in rw (stored a (p .0) (run-is a (p .0)), stored b (p .1) (run-is b (p .1)))
+  run-is (neg a) t = let p = both (roomy β a) _ t .0 in rw (stored a p (run-is a p)) (less (ev ρ a))
 
-  -- an expression that the code works: it fits, it is the whole number, and it has its size
-  pub fits : (e : Exp) → T (fine β e) → SFits w64 (run ρ e)
-  fits e t = rw (same e t) (fit (ev ρ e) (below e t))
+  pub stored-is : (e : Exp) → T (roomy β e) → word (run ρ e) ≡ ev ρ e
+  stored-is e t = stored e t (run-is e t)
 
-  pub is : (e : Exp) → T (fine β e) → bit (run ρ e) ≡ ev ρ e
-  is e t = given e t (same e t)
+  pub run-fits : (e : Exp) → T (roomy β e) → SFits w64 (run ρ e)
+  run-fits e t = rw (run-is e t) (word-fits (ev ρ e) (below e t))
 
-  pub sized : (e : Exp) → T (fine β e) → natAbs (bit (run ρ e)) ≤ size β e
-  sized e t = rw (given e t (same e t)) (small e)
+-- one term more of a sum whose terms leave room for all of them
+pub add-term : (n B : ℕ) (f : ℕ → ℤ) → n * B < 2 ^ 63 → ((i : ℕ) → i < n → natAbs (f i) ≤ B)
+    → (k : ℕ) (s x : ℤ) → k < n → s ≡ Σ k f → x ≡ f k → SFits w64 (s +ℤ word x) × (word (s +ℤ word x) ≡ Σ (k + 1) f)
+add-term n B f room h k s x l es ex =
+    let one : natAbs x ≤ B = rw ex (h k l) in
+    let least : 1 * B ≤ n * B = mul-le-mul {n₁ = 1} {m₁ = B} {n₂ = n} {m₂ = B} (omega arith) (omega arith) in
+    let most : (k + 1) * B ≤ n * B = mul-le-mul {n₁ = k + 1} {m₁ = B} {n₂ = n} {m₂ = B} (omega arith) (omega arith) in
+    let total : s +ℤ word x ≡ Σ (k + 1) f = rw (word-is x (omega arith), es, ex) (sym (Σ-more k f)) in
+    let small : natAbs (s +ℤ word x) < 2 ^ 63 = rw total (omega (arith, Σ-bound (k + 1) B f (λ i q. h i (omega arith)))) in
+    (word-fits (s +ℤ word x) small, word-is (s +ℤ word x) small ∙ total)

@@ -1,1 +1,3 @@
 pub mod Factor
+pub mod Admitted
+pub mod Image

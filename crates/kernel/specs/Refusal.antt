@@ -28,16 +28,22 @@ within limit r = leading (λ x. leb (natAbs x) limit) r
 abbrev pub firstAbove : ℕ → List ℤ → Option ℕ
 firstAbove limit r = cond (ltb (within limit r) (length r)) (Some (within limit r)) None
 
--- what refuses a block and an image of length k, where a kernel tells these figures: it is unfit, the block's length, the
--- image's length, the first reading above the limit
+-- what refuses a block, and an image of length k, of a fit kernel: the block's length, the image's, the first reading above
+-- the limit
+abbrev pub misfit : Layer → ℕ → ℕ → List ℤ → ℕ → Option KernelFault
+misfit layer N limit r k =
+    cond (eqb (length r) N)
+    (cond (eqb k N) (mapped (Reading layer) (firstAbove limit r)) (Some (ImageLength layer k)))
+    (Some (BlockLength layer (length r)))
+
+-- an unfit kernel refuses first
+abbrev pub unfitFirst : Option Unfitness → Option KernelFault → Option KernelFault
+unfitFirst (Some f) later = Some (Unfit f)
+unfitFirst None later = later
+
+-- the same by what a kernel tells, and by what it means
 abbrev pub refused : Told → Layer → List ℤ → ℕ → Option KernelFault
-refused t layer r k =
-    elim (t .fault) [
-      Some f ↦ Some (Unfit f)
-    | None ↦
-      cond (eqb (length r) (t .length))
-      (cond (eqb k (t .length)) (mapped (Reading layer) (firstAbove (t .limit) r)) (Some (ImageLength layer k)))
-      (Some (BlockLength layer (length r))) ]
+refused t layer r k = unfitFirst (t .fault) (misfit layer (t .length) (t .limit) r k)
 
 abbrev pub refusal : Meaning → List ℤ → ℕ → Option KernelFault
 refusal m r k = refused (told m) (m .layer) r k

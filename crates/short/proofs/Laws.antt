@@ -1,0 +1,64 @@
+-- A short kernel keeps the laws, and what it admits. Assumes nothing.
+use mathlib.Core.Bool.{Bool, true, false, cond}
+use mathlib.Core.List.{List}
+use mathlib.Core.Path.{_≡_, refl, ap, _∙_}
+use Prim.Native.Nat.{ℕ, _*_, _^_, _≤_}
+use native.Mathlib.Omega.{arith}
+use lib.IntN.{ℤ}
+use lib.ListN.{length}
+use Rattle.std.specs.declared.option.Option.the-variants.{Some, None}
+use Rattle.kernel.specs.declared.fault.Layer.the-variants.{Short}
+use Rattle.kernel.specs.Meaning.{Meaning, Fit, Idle, Lawful, told}
+use Rattle.kernel.specs.Refusal.{refused}
+use Rattle.kernel.proofs.Admitted.{Admitted, admitted}
+use Rattle.tables.specs.declared.scale.Scale.the-variants.{Standard}
+use Rattle.tables.specs.Entries.{isShort}
+use Rattle.tables.proofs.Laws.{short-laws}
+use Rattle.tables.proofs.Lengths.{bounds}
+use Rattle.short.specs.Short.{fitShort, unfitShort, short, Small}
+
+fit : (N count : ℕ) → isShort N ≡ true → count ≤ N * N → Fit (fitShort N count)
+fit N count e few =
+    let laws = short-laws N e in
+    let b = bounds N e in
+    record {
+      N-least = omega arith;
+      N-most = omega arith;
+      gain-least = omega arith;
+      gain-most = omega arith;
+      room = omega arith;
+      few = few;
+      symmetric = laws .symmetric Standard;
+      C-size = laws .C-size Standard;
+      S-size = laws .S-size Standard;
+      at-zero = laws .at-zero Standard;
+      scaled = omega arith;
+      only-zeros = laws .only-zeros;
+    }
+
+idle : (N : ℕ) → Idle (unfitShort N)
+idle N = record { no-length = refl; no-gain = refl; no-limit = refl; no-scale = refl; no-count = refl }
+
+pub short-lawful : (N count : ℕ) → (isShort N ≡ true → count ≤ N * N) → Lawful (short N count)
+short-lawful N count few = go (isShort N) refl
+  where
+    go : (b : Bool) → isShort N ≡ b → Lawful (cond b (fitShort N count) (unfitShort N))
+    go true e = fit N count e (few e)
+    go false e = idle N
+
+-- what a short kernel admits
+pub record Taken (N : ℕ) (r : List ℤ) (k : ℕ) : Type 0 where
+  pub short : isShort N ≡ true
+  pub block : length r ≡ N
+  pub image : k ≡ N
+  pub readings : Small (2 ^ 40) r
+
+pub taken : (N count : ℕ) (r : List ℤ) (k : ℕ) → refused (told (short N count)) Short r k ≡ None → Taken N r k
+taken N count r k e = go (isShort N) refl (admitted (told (short N count)) Short r k e)
+  where
+    go : (b : Bool) → isShort N ≡ b → Admitted (told (cond b (fitShort N count) (unfitShort N))) r k → Taken N r k
+    go true s a = record { short = s; block = a .block; image = a .image; readings = a .readings }
+    go false s a = absurd (never (a .fit))
+      where
+        never : {X : Type 0} {x : X} → Some x ≡ None → ⊥
+        never q = let z : _≡_ {A = ℕ} 0 1 = cc in omega arith

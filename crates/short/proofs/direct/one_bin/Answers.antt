@@ -1,0 +1,48 @@
+use mathlib.Core.Path.{_≡_, ap, _∙_}
+use lib.ListN.{length}
+use Rattle.algebra.specs.Sums.{Σ}
+use Rattle.tables.specs.declared.scale.Scale.the-variants.{Standard}
+use Rattle.tables.specs.Entries.{C, S}
+use Rattle.tables.proofs.Rows.{row-length}
+use Rattle.short.proofs.Weigh.{term, cosines-matched, sines-matched, cosine-bin, sine-bin}
+use Rattle.short.proofs.direct.one_bin.Needs as need
+
+pub weigh-requires : need.weigh-requires
+weigh-requires c κs =
+    let r = c .args .block .now in
+    let row = c .cosines .ensures .row in
+    record {
+      rows = rw row (cosines-matched r (c .args .n) (c .pre .short) (c .pre .readings));
+      step = rw (row, row-length (C Standard) (length r) (c .pre .short)) (c .pre .at);
+      few = c .pre .few;
+    }
+
+pub weigh-made-requires : need.weigh-made-requires
+weigh-made-requires c κs =
+    let r = c .args .block .now in
+    let row = c .sines .ensures .row in
+    record {
+      rows = rw row (sines-matched r (c .args .n) (c .pre .short) (c .pre .readings));
+      step = rw (row, row-length (S Standard) (length r) (c .pre .short)) (c .pre .at);
+      few = c .pre .few;
+    }
+
+pub returns-then-n-block : need.returns-then-n-block
+returns-then-n-block c =
+    let r = c .args .block .now in
+    let e = ap (λ row. Σ (length r) (term r row (c .args .n))) (c .cosines .ensures .row) ∙ cosine-bin r (c .args .n) (c .pre .short) (c .pre .readings) (c .if-n-block .taken) in
+    cc
+
+pub sub-result : need.sub-result
+sub-result c =
+    let r = c .args .block .now in
+    let sum = ap (λ p. p .1) (c .weigh-made .ensures) ∙ ap (λ row. Σ (length r) (term r row (c .args .n))) (c .sines .ensures .row) in
+    sine-bin r (c .args .n) (c .pre .short) (c .pre .readings) (c .weigh-made .result .1) (c .if-n-block .left) sum .0
+
+pub returns-else-n-block : need.returns-else-n-block
+returns-else-n-block c =
+    let r = c .args .block .now in
+    let sum = ap (λ p. p .1) (c .weigh-made .ensures) ∙ ap (λ row. Σ (length r) (term r row (c .args .n))) (c .sines .ensures .row) in
+    let made = ap (λ p. p .0) (c .weigh-made .ensures) in
+    let bin = sine-bin r (c .args .n) (c .pre .short) (c .pre .readings) (c .weigh-made .result .1) (c .if-n-block .left) sum .1 in
+    cc

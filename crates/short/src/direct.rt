@@ -1,0 +1,107 @@
+ghost use mathlib.Core.Path.{_≡_};
+ghost use mathlib.Core.Bool.{true};
+ghost use Prim.Native.Nat.{ℕ, _+_, _*_, _%_, _<_, _≤_, _^_};
+ghost use lib.IntN.{pos, _*ℤ_, natAbs};
+ghost use lib.ListN.{length, getD};
+ghost use Rattle.algebra.specs.Sums.{Σ};
+ghost use Rattle.kernel.specs.Bins.{reading, bin, image as imageOf};
+ghost use Rattle.short.specs.Short.{direct, Small, Matched};
+ghost use Rattle.tables.specs.declared.scale.Scale.the-variants.{Standard};
+ghost use Rattle.tables.specs.Entries.{isShort, tablesOf};
+use kernel::fault::KernelFault;
+use kernel::fault::Layer;
+use kernel::kernel::Kernel;
+use kernel::told::Told;
+use crate::figures::fit;
+use crate::figures::unfit;
+use crate::product::product;
+use tables::entry::cosines;
+use tables::entry::is_short;
+use tables::entry::sines;
+use tables::scale::Scale;
+
+// The short kernel that works the sums as they are written.
+#[derive(Clone, Copy)]
+pub struct Direct {
+    length: usize,
+}
+
+impl Direct {
+    pub fn new(length: usize) -> Direct
+        ensures { λ r. ⌜ r .length ≡ length ⌝ }
+    {
+        Direct { length }
+    }
+}
+
+// The readings times every n-th entry of the row, round its end, added up; and the count of products.
+fn weigh(block: &[i64], row: &[i64], n: usize, count: usize) -> (usize, i64)
+    requires rows { ⌜ Matched (now block) (now row) ⌝ }
+    requires step { ⌜ n < length (now row) ⌝ }
+    requires few { ⌜ count ≤ 81 ⌝ }
+    ensures { λ r. ⌜ r ≡ (count + length (now (block .entry)), Σ (length (now (block .entry))) (λ k. reading (now (block .entry)) k *ℤ getD (now (row .entry)) (n * k % length (now (row .entry))) (pos 0))) ⌝ }
+{
+    let mut made = count;
+    let mut sum: i64 = 0;
+    let mut at = 0;
+    for value in block {
+        let (next, term) = product(made, *value, row[at]);
+        made = next;
+        sum += term;
+        at += n;
+        if at >= row.len() {
+            at -= row.len();
+        }
+    }
+    (made, sum)
+}
+
+// Bin n of the block, and the count of products.
+fn one_bin(block: &[i64], n: usize, count: usize) -> (usize, i64)
+    requires short { ⌜ isShort (length (now block)) ≡ true ⌝ }
+    requires at { ⌜ n < length (now block) ⌝ }
+    requires few { ⌜ count ≤ 81 ⌝ }
+    requires readings { ⌜ Small (2 ^ 40) (now block) ⌝ }
+    ensures { λ r. ⌜ r ≡ (count + length (now (block .entry)), bin (tablesOf Standard (length (now (block .entry)))) (reading (now (block .entry))) n) ⌝ }
+{
+    if n <= block.len() / 2 {
+        weigh(block, cosines(Scale::Standard, block.len()), n, count)
+    } else {
+        let (made, sum) = weigh(block, sines(Scale::Standard, block.len()), n, count);
+        (made, -sum)
+    }
+}
+
+// Writes all bins of the block, and answers the count of products.
+fn bins(block: &[i64], image: &mut [i64]) -> usize
+    requires short { ⌜ isShort (length (now block)) ≡ true ⌝ }
+    requires room { ⌜ length (now image) ≡ length (now block) ⌝ }
+    requires readings { ⌜ Small (2 ^ 40) (now block) ⌝ }
+    ensures made { λ r. ⌜ r ≡ length (now (block .entry)) * length (now (block .entry)) ⌝ }
+    ensures writes { λ _. ⌜ now (image .exit) ≡ imageOf (tablesOf Standard (length (now (block .entry)))) (now (block .entry)) ⌝ }
+{
+    let mut made = 0;
+    for n in 0..block.len() {
+        let (next, bin) = one_bin(block, n, made);
+        image[n] = bin;
+        made = next;
+    }
+    made
+}
+
+pub impl Kernel for Direct as DirectKernel {
+    ghost meaning = { λ k. direct (k .length) };
+
+    fn tell(&self) -> Told {
+        if is_short(self.length) {
+            fit(self.length, self.length * self.length)
+        } else {
+            unfit(self.length)
+        }
+    }
+
+    fn transform(&self, block: &[i64], image: &mut [i64]) -> Result<usize, KernelFault> {
+        self.tell().admit(Layer::Short, block, image.len())?;
+        Ok(bins(block, image))
+    }
+}

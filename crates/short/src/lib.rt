@@ -1,0 +1,4 @@
+// Kernels of lengths 3 to 9 over the standard tables.
+pub mod direct;
+mod figures;
+mod product;
