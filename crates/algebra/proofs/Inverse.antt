@@ -1,5 +1,6 @@
 -- A square matrix with an inverse, up to a factor, takes only the row of zeros to zeros. Assumes nothing.
 use mathlib.Core.Bool.{Bool, true, false, cond}
+use mathlib.Core.List.{List, [], _∷_}
 use mathlib.Core.Logic.{_≢_}
 use mathlib.Core.Path.{_≡_, refl, sym, _∙_, subst}
 use Prim.Native.Nat.{ℕ, suc, _<_}
@@ -8,8 +9,8 @@ use lib.Dec.{T, eqb, eqb→eq, eqb-refl}
 use lib.IntN.{ℤ, pos, _*ℤ_, *ℤ-zero}
 use borrow.Author.Differences.{ints}
 use Rattle.algebra.specs.Sums.{Σ}
-use Rattle.algebra.proofs.Integers.{*ℤ-left-comm}
-use Rattle.algebra.proofs.Sums.{Σ-cong, Σ-none, Σ-swap, Σ-scale-l, Σ-single}
+use Rattle.algebra.proofs.Ring.{ring, var, _⊗_}
+use Rattle.algebra.proofs.Sums.{Σ-cong, Σ-none, Σ-swap, Σ-scale, Σ-single}
 use Rattle.algebra.proofs.Tests.{below, below-at, eqZ, eqZ-is}
 
 -- d on the diagonal, 0 elsewhere
@@ -47,14 +48,14 @@ module _ (N : ℕ) (R M : ℕ → ℕ → ℤ) (d : ℕ) (t : T (inverts N R M d
   unfolding inverts
   spread j k l q =
       let e = eqZ-is (Σ N (λ n. M j n *ℤ R n k)) (unit (suc d) j k) (below-at N _ (below-at N _ t j l) k q) in
-      rw (← e, ← Σ-scale-l N (r k) (λ n. M j n *ℤ R n k))
-      (Σ-cong N (λ n. r k *ℤ (M j n *ℤ R n k)) (λ n. M j n *ℤ (r k *ℤ R n k)) (λ n _. *ℤ-left-comm (r k) (M j n) (R n k)))
+      rw (← e, ← Σ-scale N (r k) (λ n. M j n *ℤ R n k))
+      (Σ-cong N (λ n. r k *ℤ (M j n *ℤ R n k)) (λ n. M j n *ℤ (r k *ℤ R n k)) (λ n _. ring (r k ∷ M j n ∷ R n k ∷ []) (var 0 ⊗ (var 1 ⊗ var 2)) (var 1 ⊗ (var 0 ⊗ var 2)) tt))
 
   pub only-zeros : ((n : ℕ) → n < N → Σ N (λ k. r k *ℤ R n k) ≡ pos 0) → (j : ℕ) → j < N → r j ≡ pos 0
   only-zeros h j l = cancel (r j) d (sym (one j l) ∙ none)
     where
       column : (n : ℕ) → n < N → Σ N (λ k. M j n *ℤ (r k *ℤ R n k)) ≡ pos 0
-      column n q = Σ-scale-l N (M j n) (λ k. r k *ℤ R n k) ∙ rw (h n q) (*ℤ-zero (M j n))
+      column n q = Σ-scale N (M j n) (λ k. r k *ℤ R n k) ∙ rw (h n q) (*ℤ-zero (M j n))
       none : Σ N (λ k. r k *ℤ unit (suc d) j k) ≡ pos 0
       none =
           Σ-cong N (λ k. r k *ℤ unit (suc d) j k) (λ k. Σ N (λ n. M j n *ℤ (r k *ℤ R n k))) (λ k q. spread j k l q)

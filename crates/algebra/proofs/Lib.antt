@@ -1,7 +1,7 @@
 pub mod Integers
 pub mod Sums
 pub mod Tests
-pub mod Inverse
 pub mod Ring
+pub mod Inverse
 pub mod Congruence
 pub mod Words

@@ -1,14 +1,19 @@
-use mathlib.Core.Path.{_≡_, refl, sym, _∙_, ap, subst}
-use Prim.Native.Nat.{ℕ, zero, suc, _+_, _*_, _≤_, _<_}
-use native.Mathlib.Omega.{arith}
-use native.Mathlib.Nat.{zero-mul, suc-mul}
-use native.Mathlib.Numerals.{add-one}
-use lib.IntN.{ℤ, pos, negsuc, negℤ, natAbs, _+ℤ_, _-ℤ_, _*ℤ_, *ℤ-comm, *ℤ-zero, zero-*ℤ, +ℤ-idl, +ℤ-idr}
+-- The laws of finite sums. Assumes nothing.
 use mathlib.Core.Logic.{_≢_}
+use mathlib.Core.Path.{_≡_, refl, sym, _∙_}
+use Prim.Native.Nat.{ℕ, zero, suc, _+_, _*_, _≤_, _<_}
 use native.Mathlib.Decide.{ℕ-discrete}
+use native.Mathlib.Nat.{zero-mul}
+use native.Mathlib.Numerals.{add-one}
+use native.Mathlib.Omega.{arith}
+use lib.IntN.{ℤ, pos, negℤ, natAbs, _+ℤ_, _*ℤ_, *ℤ-zero, +ℤ-idl, +ℤ-idr}
 use borrow.Author.Differences.{ints}
 use Rattle.algebra.specs.Sums.{Σ}
-use Rattle.algebra.proofs.Integers.{dist-l, dist-r, *ℤ-assoc}
+use Rattle.algebra.proofs.Integers.{dist-l}
+
+pub Σ-more : (n : ℕ) (f : ℕ → ℤ) → Σ (n + 1) f ≡ Σ n f +ℤ f n
+unfolding Σ
+Σ-more n f = rw add-one
 
 pub Σ-cong : (n : ℕ) (f g : ℕ → ℤ) → ((k : ℕ) → k < n → f k ≡ g k) → Σ n f ≡ Σ n g
 unfolding Σ
@@ -33,43 +38,30 @@ unfolding Σ
 Σ-neg zero f = refl
 Σ-neg (suc n) f = rw (Σ-neg n f) (omega (arith, ints))
 
-pub Σ-sub : (n : ℕ) (f g : ℕ → ℤ) → Σ n (λ k. f k -ℤ g k) ≡ Σ n f -ℤ Σ n g
-Σ-sub n f g = Σ-add n f (λ k. negℤ (g k)) ∙ rw (Σ-neg n g)
-
-pub Σ-scale-l : (n : ℕ) (c : ℤ) (f : ℕ → ℤ) → Σ n (λ k. c *ℤ f k) ≡ c *ℤ Σ n f
+pub Σ-scale : (n : ℕ) (c : ℤ) (f : ℕ → ℤ) → Σ n (λ k. c *ℤ f k) ≡ c *ℤ Σ n f
 unfolding Σ
-Σ-scale-l zero c f = sym (*ℤ-zero c)
-Σ-scale-l (suc n) c f = rw (Σ-scale-l n c f, dist-l)
-
-pub Σ-scale-r : (n : ℕ) (c : ℤ) (f : ℕ → ℤ) → Σ n (λ k. f k *ℤ c) ≡ Σ n f *ℤ c
-unfolding Σ
-Σ-scale-r zero c f = sym (zero-*ℤ c)
-Σ-scale-r (suc n) c f = rw (Σ-scale-r n c f, dist-r)
+Σ-scale zero c f = sym (*ℤ-zero c)
+Σ-scale (suc n) c f = rw (Σ-scale n c f, dist-l)
 
 pub Σ-swap : (m n : ℕ) (f : ℕ → ℕ → ℤ) → Σ m (λ i. Σ n (λ j. f i j)) ≡ Σ n (λ j. Σ m (λ i. f i j))
 unfolding Σ
 Σ-swap zero n f = sym (Σ-zero n)
 Σ-swap (suc m) n f = rw (Σ-swap m n f) (sym (Σ-add n (λ j. Σ m (λ i. f i j)) (f m)))
 
-pub abs-add : (a b : ℤ) → natAbs (a +ℤ b) ≤ natAbs a + natAbs b
+-- a sum of which all terms but one are 0
+pub Σ-single : (n j : ℕ) (f : ℕ → ℤ) → j < n → ((k : ℕ) → k < n → k ≢ j → f k ≡ pos 0) → Σ n f ≡ f j
+unfolding Σ
+Σ-single zero j f l h = absurd (omega arith)
+Σ-single (suc n) j f l h =
+    elim (ℕ-discrete j n) [
+      yes e ↦ rw (Σ-none n f (λ k q. h k (omega arith) (omega arith)), e, +ℤ-idl)
+    | no u ↦ rw (Σ-single n j f (omega arith) (λ k q w. h k (omega arith) w), h n (omega arith) (omega arith), +ℤ-idr) ]
+
+abs-add : (a b : ℤ) → natAbs (a +ℤ b) ≤ natAbs a + natAbs b
 abs-add a b = omega (arith, ints)
 
 pub Σ-bound : (n B : ℕ) (f : ℕ → ℤ) → ((k : ℕ) → k < n → natAbs (f k) ≤ B) → natAbs (Σ n f) ≤ n * B
 unfolding Σ
 Σ-bound zero B f h = rw zero-mul (omega arith)
-Σ-bound (suc n) B f h = omega (arith, Σ-bound n B f (λ k l. h k (omega arith)), h n (omega arith), abs-add (Σ n f) (f n))
-
--- linear in r
-pub Σ-lin : (n : ℕ) (a b : ℤ) (r s c : ℕ → ℤ) → Σ n (λ k. (a *ℤ r k +ℤ b *ℤ s k) *ℤ c k) ≡ a *ℤ Σ n (λ k. r k *ℤ c k) +ℤ b *ℤ Σ n (λ k. s k *ℤ c k)
-Σ-lin n a b r s c = simp (dist-r, *ℤ-assoc) (Σ-add n (λ k. a *ℤ (r k *ℤ c k)) (λ k. b *ℤ (s k *ℤ c k)) ∙ rw (Σ-scale-l n a (λ k. r k *ℤ c k), Σ-scale-l n b (λ k. s k *ℤ c k)))
-
-pub Σ-single : (n j : ℕ) (f : ℕ → ℤ) → j < n → ((k : ℕ) → k < n → k ≢ j → f k ≡ pos 0) → Σ n f ≡ f j
-unfolding Σ
-Σ-single zero j f l h = absurd (omega arith)
-Σ-single (suc n) j f l h = elim (ℕ-discrete j n) [
-    yes e ↦ rw (Σ-none n f (λ k q. h k (omega arith) (omega arith)), e, +ℤ-idl)
-  | no u ↦ rw (Σ-single n j f (omega arith) (λ k q w. h k (omega arith) w), h n (omega arith) (omega arith), +ℤ-idr) ]
-
-pub Σ-more : (n : ℕ) (f : ℕ → ℤ) → Σ (n + 1) f ≡ Σ n f +ℤ f n
-unfolding Σ
-Σ-more n f = rw add-one
+Σ-bound (suc n) B f h =
+    omega (arith, Σ-bound n B f (λ k l. h k (omega arith)), h n (omega arith), abs-add (Σ n f) (f n))

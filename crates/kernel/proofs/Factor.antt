@@ -1,11 +1,12 @@
 -- A bin as one sum, over the factor of each reading. Assumes nothing.
 use mathlib.Core.Bool.{Bool, true, false, cond}
+use mathlib.Core.List.{List, [], _∷_}
 use mathlib.Core.Path.{_≡_, refl, sym, _∙_}
 use Prim.Native.Nat.{ℕ, _*_, _/_, _%_}
 use lib.Dec.{leb}
 use lib.IntN.{ℤ, negℤ, _*ℤ_}
 use Rattle.algebra.specs.Sums.{Σ}
-use Rattle.algebra.proofs.Integers.{neg-mul-r}
+use Rattle.algebra.proofs.Ring.{ring, var, neg, _⊗_}
 use Rattle.algebra.proofs.Sums.{Σ-cong, Σ-neg}
 use Rattle.kernel.specs.Bins.{Tables, bin}
 
@@ -25,4 +26,4 @@ bin-factor t r n = go (leb n (t .N / 2))
     go true = refl
     go false =
         sym (Σ-neg (t .N) sines)
-        ∙ Σ-cong (t .N) (λ k. negℤ (sines k)) (λ k. r k *ℤ negℤ (t .S (n * k % t .N))) (λ k _. sym (neg-mul-r (r k) (t .S (n * k % t .N))))
+        ∙ Σ-cong (t .N) (λ k. negℤ (sines k)) (λ k. r k *ℤ negℤ (t .S (n * k % t .N))) (λ k _. ring (r k ∷ t .S (n * k % t .N) ∷ []) (neg (var 0 ⊗ var 1)) (var 0 ⊗ neg (var 1)) tt)

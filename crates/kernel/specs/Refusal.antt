@@ -17,6 +17,7 @@ use Rattle.kernel.specs.declared.fault.Unfit.{Unfit as Unfitness}
 use Rattle.kernel.specs.declared.fault.Unfit.the-variants.{NoShortKernel, SharedDivisor, TooLong, TooMuchGain}
 use Rattle.kernel.specs.declared.fault.KernelFault.{KernelFault}
 use Rattle.kernel.specs.declared.fault.KernelFault.the-variants.{Unfit, BlockLength, ImageLength, Reading}
+use Rattle.kernel.specs.declared.fault.Code.{Code}
 use Rattle.kernel.specs.declared.told.Told.{Told}
 use Rattle.kernel.specs.Meaning.{Meaning, told}
 
@@ -57,28 +58,20 @@ abbrev pub granted : {X F : Type 0} → Option F → X → X → X
 granted None new old = new
 granted (Some f) new old = old
 
--- number, place and layer of a fault
-pub record Code : Type 0 where
-  pub number : ℕ
-  pub place : ℕ
-  pub layer : Layer
-
-abbrev pub code : ℕ → ℕ → Layer → Code
-code number place layer = record { number = number; place = place; layer = layer }
-
-abbrev pub unfitCode : Unfitness → Code
-unfitCode (NoShortKernel n) = code 1 n at.Short
-unfitCode (SharedDivisor d) = code 2 d at.Product
-unfitCode (TooLong n) = code 3 n at.Product
-unfitCode (TooMuchGain g) = code 4 g at.Product
-
-abbrev pub kernelCode : KernelFault → Code
-kernelCode (Unfit f) = unfitCode f
-kernelCode (BlockLength layer n) = code 7 n layer
-kernelCode (ImageLength layer n) = code 8 n layer
-kernelCode (Reading layer i) = code 9 i layer
-
 -- k for a short kernel and p for a product
 abbrev pub letterOf : Layer → ℕ
 letterOf at.Short = 107
 letterOf at.Product = 112
+
+-- the number, the place and the layer's letter of each fault
+abbrev pub code : ℕ → ℕ → Layer → Code
+code number place layer = record { number = number; place = place; letter = letterOf layer }
+
+abbrev pub codeOf : KernelFault → Code
+codeOf (Unfit (NoShortKernel length)) = code 1 length at.Short
+codeOf (Unfit (SharedDivisor divisor)) = code 2 divisor at.Product
+codeOf (Unfit (TooLong length)) = code 3 length at.Product
+codeOf (Unfit (TooMuchGain gain)) = code 4 gain at.Product
+codeOf (BlockLength layer length) = code 7 length layer
+codeOf (ImageLength layer length) = code 8 length layer
+codeOf (Reading layer index) = code 9 index layer

@@ -1,11 +1,12 @@
 ghost use mathlib.Core.Path.{_≡_};
-ghost use Rattle.kernel.specs.Refusal.{letterOf, unfitCode, kernelCode};
+ghost use Rattle.kernel.specs.Refusal.{letterOf, codeOf};
+use crate::fault::Code;
 use crate::fault::KernelFault;
 use crate::fault::Layer;
 use crate::fault::Unfit;
 
 impl Layer {
-    // The letter that stands for the layer.
+    // The letter of the layer.
     pub fn letter(self) -> char
         ensures { λ r. ⌜ r ≡ letterOf self ⌝ }
     {
@@ -16,70 +17,24 @@ impl Layer {
     }
 }
 
-impl Unfit {
-    pub fn number(self) -> u8
-        ensures { λ r. ⌜ r ≡ unfitCode self .number ⌝ }
-    {
-        match self {
-            Unfit::NoShortKernel(_) => 1,
-            Unfit::SharedDivisor(_) => 2,
-            Unfit::TooLong(_) => 3,
-            Unfit::TooMuchGain(_) => 4,
-        }
-    }
-
-    pub fn place(self) -> u64
-        ensures { λ r. ⌜ r ≡ unfitCode self .place ⌝ }
-    {
-        match self {
-            Unfit::NoShortKernel(length) => length,
-            Unfit::SharedDivisor(divisor) => divisor,
-            Unfit::TooLong(length) => length,
-            Unfit::TooMuchGain(gain) => gain,
-        }
-    }
-
-    pub fn layer(self) -> Layer
-        ensures { λ r. ⌜ r ≡ unfitCode self .layer ⌝ }
-    {
-        match self {
-            Unfit::NoShortKernel(_) => Layer::Short,
-            Unfit::SharedDivisor(_) | Unfit::TooLong(_) | Unfit::TooMuchGain(_) => Layer::Product,
-        }
-    }
-}
-
 impl KernelFault {
-    pub fn number(self) -> u8
-        ensures { λ r. ⌜ r ≡ kernelCode self .number ⌝ }
+    // The fault's number, place and letter.
+    pub fn code(self) -> Code
+        ensures { λ r. ⌜ r ≡ codeOf self ⌝ }
     {
-        match self {
-            KernelFault::Unfit(unfit) => unfit.number(),
-            KernelFault::BlockLength(_, _) => 7,
-            KernelFault::ImageLength(_, _) => 8,
-            KernelFault::Reading(_, _) => 9,
-        }
-    }
-
-    pub fn place(self) -> u64
-        ensures { λ r. ⌜ r ≡ kernelCode self .place ⌝ }
-    {
-        match self {
-            KernelFault::Unfit(unfit) => unfit.place(),
-            KernelFault::BlockLength(_, length) => length,
-            KernelFault::ImageLength(_, length) => length,
-            KernelFault::Reading(_, index) => index,
-        }
-    }
-
-    pub fn layer(self) -> Layer
-        ensures { λ r. ⌜ r ≡ kernelCode self .layer ⌝ }
-    {
-        match self {
-            KernelFault::Unfit(unfit) => unfit.layer(),
-            KernelFault::BlockLength(layer, _) => layer,
-            KernelFault::ImageLength(layer, _) => layer,
-            KernelFault::Reading(layer, _) => layer,
+        let (number, place, layer) = match self {
+            KernelFault::Unfit(Unfit::NoShortKernel(length)) => (1, length, Layer::Short),
+            KernelFault::Unfit(Unfit::SharedDivisor(divisor)) => (2, divisor, Layer::Product),
+            KernelFault::Unfit(Unfit::TooLong(length)) => (3, length, Layer::Product),
+            KernelFault::Unfit(Unfit::TooMuchGain(gain)) => (4, gain, Layer::Product),
+            KernelFault::BlockLength(layer, length) => (7, length, layer),
+            KernelFault::ImageLength(layer, length) => (8, length, layer),
+            KernelFault::Reading(layer, index) => (9, index, layer),
+        };
+        Code {
+            number,
+            place,
+            letter: layer.letter(),
         }
     }
 }

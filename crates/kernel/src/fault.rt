@@ -30,3 +30,11 @@ pub enum KernelFault {
     // 9: the index of the first reading above the limit
     Reading(Layer, u64),
 }
+
+// What a fault tells a person or a program: its number, its place and the letter of the layer where it arose.
+#[derive(Clone, Copy)]
+pub struct Code {
+    pub number: u8,
+    pub place: u64,
+    pub letter: char,
+}

@@ -4,3 +4,11 @@ pub mod code;
 pub mod fault;
 pub mod kernel;
 pub mod told;
+
+pub use admit::first_above;
+pub use fault::Code;
+pub use fault::KernelFault;
+pub use fault::Layer;
+pub use fault::Unfit;
+pub use kernel::Kernel;
+pub use told::Told;

@@ -77,17 +77,25 @@ module _ (r : List ℤ) (n : ℕ) (e : isShort (length r) ≡ true) (readings : 
   pub sines-matched : Matched r (rowOf (S Standard) (length r))
   sines-matched = row-matched (S Standard) r e readings (short-laws (length r) e .S-size Standard)
 
-  pub cosine-bin : n ≤ length r / 2 → Σ (length r) (term r (rowOf (C Standard) (length r)) n) ≡ bin (tablesOf Standard (length r)) (reading r) n
+  -- what `weigh` answers over the row of cosines, and over the row of sines, whose sum is negated in a word
+  pub cosine-bin : (row : List ℤ) (made : ℕ) (p : ℕ × ℤ) → row ≡ rowOf (C Standard) (length r) → p ≡ (made, Σ (length r) (term r row n))
+      → n ≤ length r / 2 → p ≡ (made, bin (tablesOf Standard (length r)) (reading r) n)
   unfolding bin
-  cosine-bin h = over-row (C Standard) r n e ∙ rw (le-leb n (length r / 2) h)
+  cosine-bin row made p e-row e-p h =
+      let sum : Σ (length r) (term r row n) ≡ Σ (length r) (λ k. reading r k *ℤ C Standard (length r) (n * k % length r)) =
+          rw e-row (over-row (C Standard) r n e) in
+      rw (le-leb n (length r / 2) h) (e-p ∙ ap (λ x. (made, x)) sum)
 
-  -- the sum of the sine terms, negated in a word
-  pub sine-bin : (x : ℤ) → length r / 2 < n → x ≡ Σ (length r) (term r (rowOf (S Standard) (length r)) n)
-      → SFits w64 (pos 0 -ℤ word x) × (word (pos 0 -ℤ word x) ≡ bin (tablesOf Standard (length r)) (reading r) n)
+  pub sine-bin : (row : List ℤ) (made : ℕ) (p : ℕ × ℤ) → row ≡ rowOf (S Standard) (length r) → p ≡ (made, Σ (length r) (term r row n))
+      → length r / 2 < n
+      → SFits w64 (pos 0 -ℤ word (p .1)) × (_≡_ {A = ℕ × ℤ} (p .0, word (pos 0 -ℤ word (p .1))) (made, bin (tablesOf Standard (length r)) (reading r) n))
   unfolding bin
-  sine-bin x h q =
-      let small : natAbs x ≤ 2 ^ 60 = rw q (whole-small r (rowOf (S Standard) (length r)) n sines-matched) in
-      let ρ = x ∷ [] in
+  sine-bin row made p e-row e-p h =
+      let first : p .0 ≡ made = ap (λ q. q .0) e-p in
+      let sum : p .1 ≡ Σ (length r) (term r (rowOf (S Standard) (length r)) n) =
+          ap (λ q. q .1) e-p ∙ ap (λ row. Σ (length r) (term r row n)) e-row in
+      let small : natAbs (p .1) ≤ 2 ^ 60 = rw sum (whole-small r (rowOf (S Standard) (length r)) n sines-matched) in
+      let ρ = p .1 ∷ [] in
       let β = 2 ^ 60 ∷ [] in
-      ( run-fits ρ β (small, tt) (neg (var 0)) tt
-      , stored-is ρ β (small, tt) (neg (var 0)) tt ∙ ap negℤ (q ∙ over-row (S Standard) r n e) ∙ rw (lt-leb n (length r / 2) h) )
+      let negated = stored-is ρ β (small, tt) (neg (var 0)) tt ∙ ap negℤ (sum ∙ over-row (S Standard) r n e) in
+      (run-fits ρ β (small, tt) (neg (var 0)) tt, rw (lt-leb n (length r / 2) h) (cc))

@@ -8,17 +8,17 @@ ghost use Rattle.kernel.specs.Bins.{reading, bin, image as imageOf};
 ghost use Rattle.short.specs.Short.{direct, Small, Matched};
 ghost use Rattle.tables.specs.declared.scale.Scale.the-variants.{Standard};
 ghost use Rattle.tables.specs.Entries.{isShort, tablesOf};
-use kernel::fault::KernelFault;
-use kernel::fault::Layer;
-use kernel::kernel::Kernel;
-use kernel::told::Told;
 use crate::figures::fit;
 use crate::figures::unfit;
 use crate::product::product;
-use tables::entry::cosines;
-use tables::entry::is_short;
-use tables::entry::sines;
-use tables::scale::Scale;
+use kernel::Kernel;
+use kernel::KernelFault;
+use kernel::Layer;
+use kernel::Told;
+use tables::Scale;
+use tables::cosines;
+use tables::is_short;
+use tables::sines;
 
 // The short kernel that works the sums as they are written.
 #[derive(Clone, Copy)]

@@ -1,10 +1,9 @@
-ghost use mathlib.Core.Bool.{true};
 ghost use mathlib.Core.Path.{_≡_};
 ghost use Rattle.kernel.specs.Meaning.{told};
 ghost use Rattle.short.specs.Short.{fitShort, unfitShort};
-use kernel::fault::Unfit;
-use kernel::told::Told;
-use tables::scale::Scale;
+use kernel::Told;
+use kernel::Unfit;
+use tables::Scale;
 
 // The largest size of a reading that a short kernel takes.
 const LIMIT: u64 = 1 << 40;

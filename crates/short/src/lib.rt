@@ -2,3 +2,6 @@
 pub mod direct;
 mod figures;
 mod product;
+
+pub use direct::Direct;
+pub use direct::DirectKernel;

@@ -1,10 +1,9 @@
-use mathlib.Core.Path.{_≡_, ap, _∙_}
+use Prim.Native.Nat.{_+_}
 use lib.ListN.{length}
-use Rattle.algebra.specs.Sums.{Σ}
 use Rattle.tables.specs.declared.scale.Scale.the-variants.{Standard}
 use Rattle.tables.specs.Entries.{C, S}
 use Rattle.tables.proofs.Rows.{row-length}
-use Rattle.short.proofs.Weigh.{term, cosines-matched, sines-matched, cosine-bin, sine-bin}
+use Rattle.short.proofs.Weigh.{cosines-matched, sines-matched, cosine-bin, sine-bin}
 use Rattle.short.proofs.direct.one_bin.Needs as need
 
 pub weigh-requires : need.weigh-requires
@@ -30,19 +29,14 @@ weigh-made-requires c κs =
 pub returns-then-n-block : need.returns-then-n-block
 returns-then-n-block c =
     let r = c .args .block .now in
-    let e = ap (λ row. Σ (length r) (term r row (c .args .n))) (c .cosines .ensures .row) ∙ cosine-bin r (c .args .n) (c .pre .short) (c .pre .readings) (c .if-n-block .taken) in
-    cc
+    cosine-bin r (c .args .n) (c .pre .short) (c .pre .readings) (c .cosines .result .now) (c .args .count + length r) (c .weigh .result) (c .cosines .ensures .row) (c .weigh .ensures) (c .if-n-block .taken)
 
 pub sub-result : need.sub-result
 sub-result c =
     let r = c .args .block .now in
-    let sum = ap (λ p. p .1) (c .weigh-made .ensures) ∙ ap (λ row. Σ (length r) (term r row (c .args .n))) (c .sines .ensures .row) in
-    sine-bin r (c .args .n) (c .pre .short) (c .pre .readings) (c .weigh-made .result .1) (c .if-n-block .left) sum .0
+    sine-bin r (c .args .n) (c .pre .short) (c .pre .readings) (c .sines .result .now) (c .args .count + length r) (c .weigh-made .result) (c .sines .ensures .row) (c .weigh-made .ensures) (c .if-n-block .left) .0
 
 pub returns-else-n-block : need.returns-else-n-block
 returns-else-n-block c =
     let r = c .args .block .now in
-    let sum = ap (λ p. p .1) (c .weigh-made .ensures) ∙ ap (λ row. Σ (length r) (term r row (c .args .n))) (c .sines .ensures .row) in
-    let made = ap (λ p. p .0) (c .weigh-made .ensures) in
-    let bin = sine-bin r (c .args .n) (c .pre .short) (c .pre .readings) (c .weigh-made .result .1) (c .if-n-block .left) sum .1 in
-    cc
+    sine-bin r (c .args .n) (c .pre .short) (c .pre .readings) (c .sines .result .now) (c .args .count + length r) (c .weigh-made .result) (c .sines .ensures .row) (c .weigh-made .ensures) (c .if-n-block .left) .1
