@@ -56,6 +56,7 @@ module _ (N : ℕ) (R M : ℕ → ℕ → ℤ) (d : ℕ) (t : T (inverts N R M d
     where
       column : (n : ℕ) → n < N → Σ N (λ k. M j n *ℤ (r k *ℤ R n k)) ≡ pos 0
       column n q = Σ-scale N (M j n) (λ k. r k *ℤ R n k) ∙ rw (h n q) (*ℤ-zero (M j n))
+
       none : Σ N (λ k. r k *ℤ unit (suc d) j k) ≡ pos 0
       none =
           Σ-cong N (λ k. r k *ℤ unit (suc d) j k) (λ k. Σ N (λ n. M j n *ℤ (r k *ℤ R n k))) (λ k q. spread j k l q)

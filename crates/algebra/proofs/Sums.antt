@@ -54,8 +54,9 @@ unfolding Σ
 Σ-single zero j f l h = absurd (omega arith)
 Σ-single (suc n) j f l h =
     elim (ℕ-discrete j n) [
-      yes e ↦ rw (Σ-none n f (λ k q. h k (omega arith) (omega arith)), e, +ℤ-idl)
-    | no u ↦ rw (Σ-single n j f (omega arith) (λ k q w. h k (omega arith) w), h n (omega arith) (omega arith), +ℤ-idr) ]
+      | yes e ↦ rw (Σ-none n f (λ k q. h k (omega arith) (omega arith)), e, +ℤ-idl)
+      | no u ↦ rw (Σ-single n j f (omega arith) (λ k q w. h k (omega arith) w), h n (omega arith) (omega arith), +ℤ-idr)
+    ]
 
 abs-add : (a b : ℤ) → natAbs (a +ℤ b) ≤ natAbs a + natAbs b
 abs-add a b = omega (arith, ints)

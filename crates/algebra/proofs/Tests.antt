@@ -22,8 +22,9 @@ unfolding below
 below-at zero p t k l = absurd (omega arith)
 below-at (suc n) p t k l =
     elim (ℕ-discrete k n) [
-      yes e ↦ rw e (both (below n p) (p n) t .1)
-    | no u ↦ below-at n p (both (below n p) (p n) t .0) k (omega arith) ]
+      | yes e ↦ rw e (both (below n p) (p n) t .1)
+      | no u ↦ below-at n p (both (below n p) (p n) t .0) k (omega arith)
+    ]
 
 abbrev pub eqZ : ℤ → ℤ → Bool
 eqZ (pos a) (pos b) = eqb a b

@@ -31,12 +31,14 @@ leading-passes : {X : Type 0} (p : X → Bool) (xs : List X) (d : X) → length 
 leading-passes p [] d h i l = absurd (omega arith)
 leading-passes p (x ∷ xs) d h i l =
     elim (p x) as (λ b. p x ≡ b → length (x ∷ xs) ≤ cond b (1 + leading p xs) 0 → p (getD (x ∷ xs) i d) ≡ true) [
-      true ↦ λ e g.
-        elim i as (λ j. j < length (x ∷ xs) → p (getD (x ∷ xs) j d) ≡ true) [
-          zero ↦ λ _. e
-        | suc j ↦ λ m. leading-passes p xs d (omega arith) j (omega arith) ]
-        l
-    | false ↦ λ e g. absurd (omega arith) ]
+      | true ↦ λ e g.
+          elim i as (λ j. j < length (x ∷ xs) → p (getD (x ∷ xs) j d) ≡ true) [
+            | zero ↦ λ _. e
+            | suc j ↦ λ m. leading-passes p xs d (omega arith) j (omega arith)
+          ]
+          l
+      | false ↦ λ e g. absurd (omega arith)
+    ]
     refl h
 
 pub none-above : (limit : ℕ) (r : List ℤ) → firstAbove limit r ≡ None → (i : ℕ) → i < length r → natAbs (reading r i) ≤ limit

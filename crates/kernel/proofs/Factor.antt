@@ -20,8 +20,10 @@ bin-factor t r n = go (leb n (t .N / 2))
   where
     cosines : ℕ → ℤ
     cosines k = r k *ℤ t .C (n * k % t .N)
+
     sines : ℕ → ℤ
     sines k = r k *ℤ t .S (n * k % t .N)
+
     go : (b : Bool) → cond b (Σ (t .N) cosines) (negℤ (Σ (t .N) sines)) ≡ Σ (t .N) (λ k. r k *ℤ cond b (t .C (n * k % t .N)) (negℤ (t .S (n * k % t .N))))
     go true = refl
     go false =

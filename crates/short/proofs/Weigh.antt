@@ -20,7 +20,7 @@ use Rattle.tables.specs.declared.scale.Scale.the-variants.{Standard}
 use Rattle.tables.specs.Entries.{isShort, rowOf, tablesOf, C, S}
 use Rattle.tables.proofs.Laws.{short-laws}
 use Rattle.tables.proofs.Lengths.{bounds}
-use Rattle.tables.proofs.Rows.{row-length, row-at}
+use Rattle.tables.proofs.Listed.{row-length, row-at}
 use Rattle.short.specs.Short.{Small, Matched}
 
 -- reading k times the entry that bin n gives it
@@ -56,8 +56,8 @@ pub over-row : (table : ℕ → ℕ → ℤ) (r : List ℤ) (n : ℕ) → isShor
 over-row table r n e =
     Σ-cong (length r) (term r (rowOf table (length r)) n) (λ k. reading r k *ℤ table (length r) (n * k % length r))
     (λ k l.
-      let N = length r in
-      rw (row-length table N e) (ap (λ x. reading r k *ℤ x) (row-at table N e (n * k % N) (mod-lt (n * k) {m = N} (omega arith)))))
+    let N = length r in
+    rw (row-length table N e) (ap (λ x. reading r k *ℤ x) (row-at table N e (n * k % N) (mod-lt (n * k) {m = N} (omega arith)))))
 
 pub row-matched : (table : ℕ → ℕ → ℤ) (r : List ℤ) → isShort (length r) ≡ true → Small (2 ^ 40) r → ((m : ℕ) → natAbs (table (length r) m) ≤ 16384)
     → Matched r (rowOf table (length r))
@@ -83,7 +83,7 @@ module _ (r : List ℤ) (n : ℕ) (e : isShort (length r) ≡ true) (readings : 
   unfolding bin
   cosine-bin row made p e-row e-p h =
       let sum : Σ (length r) (term r row n) ≡ Σ (length r) (λ k. reading r k *ℤ C Standard (length r) (n * k % length r)) =
-          rw e-row (over-row (C Standard) r n e) in
+      rw e-row (over-row (C Standard) r n e) in
       rw (le-leb n (length r / 2) h) (e-p ∙ ap (λ x. (made, x)) sum)
 
   pub sine-bin : (row : List ℤ) (made : ℕ) (p : ℕ × ℤ) → row ≡ rowOf (S Standard) (length r) → p ≡ (made, Σ (length r) (term r row n))
@@ -93,7 +93,7 @@ module _ (r : List ℤ) (n : ℕ) (e : isShort (length r) ≡ true) (readings : 
   sine-bin row made p e-row e-p h =
       let first : p .0 ≡ made = ap (λ q. q .0) e-p in
       let sum : p .1 ≡ Σ (length r) (term r (rowOf (S Standard) (length r)) n) =
-          ap (λ q. q .1) e-p ∙ ap (λ row. Σ (length r) (term r row n)) e-row in
+      ap (λ q. q .1) e-p ∙ ap (λ row. Σ (length r) (term r row n)) e-row in
       let small : natAbs (p .1) ≤ 2 ^ 60 = rw sum (whole-small r (rowOf (S Standard) (length r)) n sines-matched) in
       let ρ = p .1 ∷ [] in
       let β = 2 ^ 60 ∷ [] in

@@ -16,25 +16,25 @@ use Rattle.tables.specs.Entries.{scaleOf, isShort, tablesOf}
 -- a fit kernel of length N that makes so many products
 abbrev pub fitShort : ℕ → ℕ → Meaning
 fitShort N count = record {
-    fault = None;
-    layer = Short;
-    gain = scaleOf Standard;
-    limit = 2 ^ 40;
-    scale = scaleOf Standard;
-    count = count;
-    tables = tablesOf Standard N;
-  }
+  fault = None;
+  layer = Short;
+  gain = scaleOf Standard;
+  limit = 2 ^ 40;
+  scale = scaleOf Standard;
+  count = count;
+  tables = tablesOf Standard N;
+}
 
 abbrev pub unfitShort : ℕ → Meaning
 unfitShort N = record {
-    fault = Some (NoShortKernel N);
-    layer = Short;
-    gain = 0;
-    limit = 0;
-    scale = 0;
-    count = 0;
-    tables = record { N = 0; C = λ m. pos 0; S = λ m. pos 0 };
-  }
+  fault = Some (NoShortKernel N);
+  layer = Short;
+  gain = 0;
+  limit = 0;
+  scale = 0;
+  count = 0;
+  tables = record { N = 0; C = λ m. pos 0; S = λ m. pos 0 };
+}
 
 abbrev pub short : ℕ → ℕ → Meaning
 short N count = cond (isShort N) (fitShort N count) (unfitShort N)

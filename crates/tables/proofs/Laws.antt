@@ -14,7 +14,7 @@ use Rattle.tables.specs.Entries.{scaleOf, isShort, tablesOf, C, S}
 use Rattle.tables.specs.Laws.{ShortLaws}
 use Rattle.tables.proofs.Duals.{short-only-zeros}
 use Rattle.tables.proofs.Lengths.{bounds, everywhere, everywhere-at}
-use Rattle.tables.proofs.Rows.{C-period, S-period}
+use Rattle.tables.proofs.Listed.{C-period, S-period}
 
 C-mirrors : (s : Scale) → T (everywhere (λ N. below (N + 1) (λ m. eqZ (C s N (N - m)) (C s N m))))
 unfolding everywhere below C
@@ -44,12 +44,12 @@ S-small Fine = tt
 module _ (N : ℕ) (e : isShort N ≡ true) where
   symmetric : (s : Scale) → Symmetric (tablesOf s N)
   symmetric s = record {
-      C-period = λ m. sym (C-period s N (m + N)) ∙ ap (C s N) (add-mod-right m N) ∙ C-period s N m;
-      S-period = λ m. sym (S-period s N (m + N)) ∙ ap (S s N) (add-mod-right m N) ∙ S-period s N m;
-      even = λ m h. eqZ-is (C s N (N - m)) (C s N m) (below-at (N + 1) _ (everywhere-at _ (C-mirrors s) N e) m (omega arith));
-      odd = λ m h. eqZ-is (S s N (N - m)) (negℤ (S s N m)) (below-at (N + 1) _ (everywhere-at _ (S-mirrors s) N e) m (omega arith));
-      no-sine = eqZ-is (S s N 0) (pos 0) (everywhere-at _ (starts s .1) N e);
-    }
+    C-period = λ m. sym (C-period s N (m + N)) ∙ ap (C s N) (add-mod-right m N) ∙ C-period s N m;
+    S-period = λ m. sym (S-period s N (m + N)) ∙ ap (S s N) (add-mod-right m N) ∙ S-period s N m;
+    even = λ m h. eqZ-is (C s N (N - m)) (C s N m) (below-at (N + 1) _ (everywhere-at _ (C-mirrors s) N e) m (omega arith));
+    odd = λ m h. eqZ-is (S s N (N - m)) (negℤ (S s N m)) (below-at (N + 1) _ (everywhere-at _ (S-mirrors s) N e) m (omega arith));
+    no-sine = eqZ-is (S s N 0) (pos 0) (everywhere-at _ (starts s .1) N e);
+  }
 
   -- a bound on the entries of one period is one on all
   small : (s : Scale) (table : ℕ → ℤ) → ((m : ℕ) → table (m % N) ≡ table m) → T (below N (λ m. leb (natAbs (table m)) (scaleOf s)))
@@ -60,9 +60,9 @@ module _ (N : ℕ) (e : isShort N ≡ true) where
 
   pub short-laws : ShortLaws N
   short-laws = record {
-      symmetric = symmetric;
-      at-zero = λ s. eqZ-is (C s N 0) (pos (scaleOf s)) (everywhere-at _ (starts s .0) N e);
-      C-size = λ s. small s (C s N) (C-period s N) (everywhere-at _ (C-small s) N e);
-      S-size = λ s. small s (S s N) (S-period s N) (everywhere-at _ (S-small s) N e);
-      only-zeros = short-only-zeros N e;
-    }
+    symmetric = symmetric;
+    at-zero = λ s. eqZ-is (C s N 0) (pos (scaleOf s)) (everywhere-at _ (starts s .0) N e);
+    C-size = λ s. small s (C s N) (C-period s N) (everywhere-at _ (C-small s) N e);
+    S-size = λ s. small s (S s N) (S-period s N) (everywhere-at _ (S-small s) N e);
+    only-zeros = short-only-zeros N e;
+  }

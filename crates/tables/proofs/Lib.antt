@@ -1,5 +1,5 @@
 pub mod Lengths
-pub mod Rows
+pub mod Listed
 pub mod Right
 pub mod Duals
 pub mod Laws

@@ -57,9 +57,9 @@ sines-above Fine = tt
 
 pub right-cosines : (s : Scale) → RightCosines s
 right-cosines s = record {
-    entries = kept s cosineRules (C s) (cosines-keep s);
-    falls = λ N m e h. ltZ-yes (below-at (N / 2) _ (everywhere-at _ (cosines-fall s) N e) m (omega arith));
-  }
+  entries = kept s cosineRules (C s) (cosines-keep s);
+  falls = λ N m e h. ltZ-yes (below-at (N / 2) _ (everywhere-at _ (cosines-fall s) N e) m (omega arith));
+}
 
 sines-order : (s : Scale) → (T (ltZ (S s 5 2) (S s 5 1))) × (T (ltZ (S s 7 1) (S s 7 2))) × (T (ltZ (S s 7 3) (S s 7 1))) × (T (ltZ (S s 9 1) (S s 9 2))) × (T (ltZ (S s 9 4) (S s 9 1)))
 unfolding S

@@ -10,6 +10,7 @@ use Rattle.std.specs.Iters.{counting}
 use Rattle.std.specs.declared.option.Option.{Option}
 use Rattle.std.specs.declared.option.Option.the-variants.{Some, None}
 use Rattle.kernel.specs.Bins.{Tables}
+use Rattle.tables.specs.declared.rows.Rows.{Rows}
 use Rattle.tables.specs.declared.scale.Scale.{Scale}
 use Rattle.tables.specs.declared.scale.Scale.the-variants.{Standard, Fine}
 
@@ -86,6 +87,10 @@ tablesOf s N = record { N = N; C = C s N; S = S s N }
 -- the first N entries of a table, or none where no short table has the length
 unfoldable pub rowOf : (ℕ → ℕ → ℤ) → ℕ → List ℤ
 rowOf table N = cond (isShort N) (map (table N) (counting 0 N)) []
+
+-- the row of length N among the rows of lengths 3 to 9
+abbrev pub rowIn : Rows → ℕ → List ℤ
+rowIn rows N = getD ([] ∷ [] ∷ [] ∷ rows .three ∷ rows .four ∷ rows .five ∷ rows .six ∷ rows .seven ∷ rows .eight ∷ rows .nine ∷ []) N []
 
 -- entry m of a row, round its end
 abbrev pub entryOf : List ℤ → ℕ → Option ℤ

@@ -26,11 +26,12 @@ pub loop-n-again : need.loop-n-again
 loop-n-again c =
     let f : SFits w64 (c .one-bin-next .result .1) = search needs in
     let e = toZ-ofZ w64 (c .one-bin-next .result .1) f ∙ ap (λ p. p .1) (c .one-bin-next .ensures) in
-    let l : c .loop-n .n < length (c .loop-n .image) = omega arith in
-    ( ap (λ p. p .0) (c .one-bin-next .ensures) ∙ omega (arith, add-mul (c .loop-n .n) 1 (length (c .args .block .now)))
-    , below-more _ _
-      (λ i h. let other : i ≢ c .loop-n .n = omega arith in rw getD-set-other (c .loop-n .inv .1 i h))
-      (rw getD-set-same e) )
+    let l : c .loop-n .n < length (c .loop-n .image) = omega arith in (
+      ap (λ p. p .0) (c .one-bin-next .ensures) ∙ omega (arith, add-mul (c .loop-n .n) 1 (length (c .args .block .now))),
+      below-more _ _
+          (λ i h. let other : i ≢ c .loop-n .n = omega arith in rw getD-set-other (c .loop-n .inv .1 i h))
+          (rw getD-set-same e),
+    )
 
 pub returns : need.returns
 returns c =

@@ -2,7 +2,7 @@ use Prim.Native.Nat.{_+_}
 use lib.ListN.{length}
 use Rattle.tables.specs.declared.scale.Scale.the-variants.{Standard}
 use Rattle.tables.specs.Entries.{C, S}
-use Rattle.tables.proofs.Rows.{row-length}
+use Rattle.tables.proofs.Listed.{row-length}
 use Rattle.short.proofs.Weigh.{cosines-matched, sines-matched, cosine-bin, sine-bin}
 use Rattle.short.proofs.direct.one_bin.Needs as need
 

@@ -35,9 +35,10 @@ loop-value-again c =
     let m = made r row n (c .pre .rows) k (c .loop-value .at) (c .loop-value-test .taken) (c .loop-value .inv .2) in
     let a = added r row n (c .pre .rows) k _ (c .product-next .result .1) (c .loop-value-test .taken) (c .loop-value .inv .1) (ap (λ p. p .1) (c .product-next .ensures) ∙ m .1) in
     let next : c .if-at-row .at ≡ n * (k + 1) % length row =
-        elim (c .if-at-row .came) [
-          then-at-row w ↦ remainder-step (length row) n k (c .loop-value .at) (c .if-at-row .at) (c .pre .step) (c .loop-value .inv .2) (λ h. absurd (omega (arith, w .if-at-row .taken))) (λ _. w .at-is)
-        | else-at-row w ↦ remainder-step (length row) n k (c .loop-value .at) (c .if-at-row .at) (c .pre .step) (c .loop-value .inv .2) (λ _. w .at-is) (λ h. absurd (omega (arith, w .if-at-row .left))) ] in
+    elim (c .if-at-row .came) [
+      | then-at-row w ↦ remainder-step (length row) n k (c .loop-value .at) (c .if-at-row .at) (c .pre .step) (c .loop-value .inv .2) (λ h. absurd (omega (arith, w .if-at-row .taken))) (λ _. w .at-is)
+      | else-at-row w ↦ remainder-step (length row) n k (c .loop-value .at) (c .if-at-row .at) (c .pre .step) (c .loop-value .inv .2) (λ _. w .at-is) (λ h. absurd (omega (arith, w .if-at-row .left)))
+    ] in
     (ap (λ p. p .0) (c .product-next .ensures) ∙ omega arith, a .1, next, rw next (mod-lt (n * (k + 1)) (omega arith)))
 
 pub returns : need.returns

@@ -1,6 +1,6 @@
 use mathlib.Core.Path.{ap, _∙_}
 use Rattle.tables.specs.Entries.{C, entryOf}
-use Rattle.tables.proofs.Rows.{row-entry, C-period}
+use Rattle.tables.proofs.Listed.{row-entry, C-period}
 use Rattle.tables.proofs.entry.cosine.Needs as need
 
 pub returns : need.returns

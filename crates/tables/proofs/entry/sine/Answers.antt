@@ -1,6 +1,6 @@
 use mathlib.Core.Path.{ap, _∙_}
 use Rattle.tables.specs.Entries.{S, entryOf}
-use Rattle.tables.proofs.Rows.{row-entry, S-period}
+use Rattle.tables.proofs.Listed.{row-entry, S-period}
 use Rattle.tables.proofs.entry.sine.Needs as need
 
 pub returns : need.returns

@@ -1,20 +1,22 @@
 -- A row of a table: its length and its entries. Assumes nothing.
 use mathlib.Core.Bool.{Bool, true, false, cond}
-use mathlib.Core.List.{List, [], _++_, map}
+use mathlib.Core.List.{List, []}
 use mathlib.Core.Path.{_≡_, refl, sym, ap, _∙_}
-use Prim.Native.Nat.{ℕ, _-_, _*_, _/_, _%_, _<_}
+use Prim.Native.Nat.{ℕ, zero, suc, _%_, _<_}
 use native.Mathlib.Nat.{mod-lt, mod-mod}
 use native.Mathlib.Omega.{arith}
 use lib.Dec.{eqb}
 use lib.IntN.{ℤ, pos}
-use lib.ListN.{length, getD, take, drop}
+use lib.ListN.{length, getD}
 use Rattle.std.specs.declared.option.Option.{Option}
 use Rattle.std.specs.declared.option.Option.the-variants.{Some, None}
 use Rattle.std.proofs.shelf.Counted.{length-map-counting, getD-map-counting}
 use Rattle.std.proofs.shelf.Tests.{ne-eqb}
-use Rattle.tables.specs.Entries.{isShort, rowOf, entryOf, C, S}
+use Rattle.std.proofs.shelf.Ways.{tells}
+use Rattle.tables.specs.Entries.{isShort, rowOf, rowIn, entryOf, C, S}
+use Rattle.tables.specs.declared.rows.Rows.{Rows}
 use Rattle.tables.specs.declared.scale.Scale.{Scale}
-use Rattle.tables.proofs.Lengths.{bounds, each}
+use Rattle.tables.proofs.Lengths.{bounds}
 
 module _ (table : ℕ → ℕ → ℤ) (N : ℕ) where
   pub row-none : isShort N ≡ false → rowOf table N ≡ []
@@ -40,14 +42,23 @@ module _ (table : ℕ → ℕ → ℤ) (N : ℕ) where
           rw (some, l, at, period m)
       go false e = rw (row-none e)
 
--- the rows of lengths 3 to 9, one after the other
-abbrev pub allRows : (ℕ → ℕ → ℤ) → List ℤ
-allRows t = rowOf t 3 ++ rowOf t 4 ++ rowOf t 5 ++ rowOf t 6 ++ rowOf t 7 ++ rowOf t 8 ++ rowOf t 9
+-- the rows of a table
+abbrev pub rowsOf : (ℕ → ℕ → ℤ) → Rows
+rowsOf t = record { three = rowOf t 3; four = rowOf t 4; five = rowOf t 5; six = rowOf t 6; seven = rowOf t 7; eight = rowOf t 8; nine = rowOf t 9 }
 
-pub row-cut : (t : ℕ → ℕ → ℤ) (N : ℕ) → isShort N ≡ true → take N (drop (N * (N - 1) / 2 - 3) (allRows t)) ≡ rowOf t N
+pub row-in : (t : ℕ → ℕ → ℤ) (N : ℕ) → rowIn (rowsOf t) N ≡ rowOf t N
 unfolding rowOf
-row-cut t N e =
-    each (λ n. take n (drop (n * (n - 1) / 2 - 3) (allRows t)) ≡ rowOf t n) (refl, refl, refl, refl, refl, refl, refl) N e
+row-in t zero = refl
+row-in t (suc zero) = refl
+row-in t (suc (suc zero)) = refl
+row-in t (suc (suc (suc zero))) = refl
+row-in t (suc (suc (suc (suc zero)))) = refl
+row-in t (suc (suc (suc (suc (suc zero))))) = refl
+row-in t (suc (suc (suc (suc (suc (suc zero)))))) = refl
+row-in t (suc (suc (suc (suc (suc (suc (suc zero))))))) = refl
+row-in t (suc (suc (suc (suc (suc (suc (suc (suc zero)))))))) = refl
+row-in t (suc (suc (suc (suc (suc (suc (suc (suc (suc zero))))))))) = refl
+row-in t (suc (suc (suc (suc (suc (suc (suc (suc (suc (suc n)))))))))) = sym (row-none t (suc (suc (suc (suc (suc (suc (suc (suc (suc (suc n)))))))))) (grind (arith, tells)))
 
 pub C-period : (s : Scale) (N m : ℕ) → C s N (m % N) ≡ C s N m
 unfolding C
