@@ -1,16 +1,18 @@
 -- A short kernel keeps the laws, and what it admits. Assumes nothing.
 use mathlib.Core.Bool.{Bool, true, false, cond}
 use mathlib.Core.List.{List}
-use mathlib.Core.Path.{_≡_, refl, ap, _∙_}
+use mathlib.Core.Path.{_≡_, refl, subst}
 use Prim.Native.Nat.{ℕ, _*_, _^_, _≤_}
 use native.Mathlib.Omega.{arith}
 use lib.IntN.{ℤ}
 use lib.ListN.{length}
 use Rattle.std.specs.declared.option.Option.the-variants.{Some, None}
-use Rattle.kernel.specs.declared.fault.Layer.the-variants.{Short}
+use Rattle.std.specs.declared.result.Result.the-variants.{Ok}
+use Rattle.kernel.specs.declared.fault.Layer.{Layer}
+use Rattle.kernel.specs.declared.told.Told.{Told}
 use Rattle.kernel.specs.Meaning.{Meaning, Fit, Idle, Lawful, told}
-use Rattle.kernel.specs.Refusal.{refused}
-use Rattle.kernel.proofs.Admitted.{Admitted, admitted}
+use Rattle.kernel.specs.Refusal.{refused, answered}
+use Rattle.kernel.proofs.Admitted.{Admitted, admitted, not-refused}
 use Rattle.tables.specs.declared.scale.Scale.the-variants.{Standard}
 use Rattle.tables.specs.Entries.{isShort}
 use Rattle.tables.proofs.Laws.{short-laws}
@@ -53,8 +55,8 @@ pub record Taken (N : ℕ) (r : List ℤ) (k : ℕ) : Type 0 where
   pub image : k ≡ N
   pub readings : Small (2 ^ 40) r
 
-pub taken : (N count : ℕ) (r : List ℤ) (k : ℕ) → refused (told (short N count)) Short r k ≡ None → Taken N r k
-taken N count r k e = go (isShort N) refl (admitted (told (short N count)) Short r k e)
+pub taken : (N count : ℕ) (t : Told) (layer : Layer) (r : List ℤ) (k : ℕ) (y : Unit {0}) → t ≡ told (short N count) → Ok y ≡ answered tt (refused t layer r k) → Taken N r k
+taken N count t layer r k y is e = go (isShort N) refl (subst (λ t. Admitted t r k) is (admitted t layer r k (not-refused tt y (refused t layer r k) e)))
   where
     go : (b : Bool) → isShort N ≡ b → Admitted (told (cond b (fitShort N count) (unfitShort N))) r k → Taken N r k
     go true s a = record { short = s; block = a .block; image = a .image; readings = a .readings }

@@ -70,31 +70,31 @@ row-matched table r e readings size =
       entries = λ k h. rw (row-at table (length r) e k (omega arith)) (size k);
     }
 
-module _ (r : List ℤ) (n : ℕ) (e : isShort (length r) ≡ true) (readings : Small (2 ^ 40) r) where
-  pub cosines-matched : Matched r (rowOf (C Standard) (length r))
-  cosines-matched = row-matched (C Standard) r e readings (short-laws (length r) e .C-size Standard)
+pub cosines-matched : (r : List ℤ) → isShort (length r) ≡ true → Small (2 ^ 40) r → Matched r (rowOf (C Standard) (length r))
+cosines-matched r e readings = row-matched (C Standard) r e readings (short-laws (length r) e .C-size Standard)
 
-  pub sines-matched : Matched r (rowOf (S Standard) (length r))
-  sines-matched = row-matched (S Standard) r e readings (short-laws (length r) e .S-size Standard)
+pub sines-matched : (r : List ℤ) → isShort (length r) ≡ true → Small (2 ^ 40) r → Matched r (rowOf (S Standard) (length r))
+sines-matched r e readings = row-matched (S Standard) r e readings (short-laws (length r) e .S-size Standard)
 
+module _ (r : List ℤ) (n : ℕ) (e : isShort (length r) ≡ true) (row : List ℤ) (m : Matched r row) where
   -- what `weigh` answers over the row of cosines, and over the row of sines, whose sum is negated in a word
-  pub cosine-bin : (row : List ℤ) (made : ℕ) (p : ℕ × ℤ) → row ≡ rowOf (C Standard) (length r) → p ≡ (made, Σ (length r) (term r row n))
+  pub cosine-bin : (made : ℕ) (p : ℕ × ℤ) → row ≡ rowOf (C Standard) (length r) → p ≡ (made, Σ (length r) (term r row n))
       → n ≤ length r / 2 → p ≡ (made, bin (tablesOf Standard (length r)) (reading r) n)
   unfolding bin
-  cosine-bin row made p e-row e-p h =
+  cosine-bin made p e-row e-p h =
       let sum : Σ (length r) (term r row n) ≡ Σ (length r) (λ k. reading r k *ℤ C Standard (length r) (n * k % length r)) =
       rw e-row (over-row (C Standard) r n e) in
       rw (le-leb n (length r / 2) h) (e-p ∙ ap (λ x. (made, x)) sum)
 
-  pub sine-bin : (row : List ℤ) (made : ℕ) (p : ℕ × ℤ) → row ≡ rowOf (S Standard) (length r) → p ≡ (made, Σ (length r) (term r row n))
+  pub sine-bin : (made : ℕ) (p : ℕ × ℤ) → row ≡ rowOf (S Standard) (length r) → p ≡ (made, Σ (length r) (term r row n))
       → length r / 2 < n
       → SFits w64 (pos 0 -ℤ word (p .1)) × (_≡_ {A = ℕ × ℤ} (p .0, word (pos 0 -ℤ word (p .1))) (made, bin (tablesOf Standard (length r)) (reading r) n))
   unfolding bin
-  sine-bin row made p e-row e-p h =
+  sine-bin made p e-row e-p h =
       let first : p .0 ≡ made = ap (λ q. q .0) e-p in
       let sum : p .1 ≡ Σ (length r) (term r (rowOf (S Standard) (length r)) n) =
       ap (λ q. q .1) e-p ∙ ap (λ row. Σ (length r) (term r row n)) e-row in
-      let small : natAbs (p .1) ≤ 2 ^ 60 = rw sum (whole-small r (rowOf (S Standard) (length r)) n sines-matched) in
+      let small : natAbs (p .1) ≤ 2 ^ 60 = rw (ap (λ q. q .1) e-p) (whole-small r row n m) in
       let ρ = p .1 ∷ [] in
       let β = 2 ^ 60 ∷ [] in
       let negated = stored-is ρ β (small, tt) (neg (var 0)) tt ∙ ap negℤ (sum ∙ over-row (S Standard) r n e) in

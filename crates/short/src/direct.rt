@@ -7,7 +7,7 @@ ghost use Rattle.algebra.specs.Sums.{Σ};
 ghost use Rattle.kernel.specs.Bins.{reading, bin, image as imageOf};
 ghost use Rattle.short.specs.Short.{direct, Small, Matched};
 ghost use Rattle.tables.specs.declared.scale.Scale.the-variants.{Standard};
-ghost use Rattle.tables.specs.Entries.{isShort, tablesOf};
+ghost use Rattle.tables.specs.Entries.{isShort, tablesOf, rowOf, C, S};
 use crate::figures::fit;
 use crate::figures::unfit;
 use crate::product::product;
@@ -56,18 +56,19 @@ fn weigh(block: &[i64], row: &[i64], n: usize, count: usize) -> (usize, i64)
     (made, sum)
 }
 
-// Bin n of the block, and the count of products.
-fn one_bin(block: &[i64], n: usize, count: usize) -> (usize, i64)
+// Bin n of the block, from the rows of its length, and the count of products.
+fn one_bin(block: &[i64], cosines: &[i64], sines: &[i64], n: usize, count: usize) -> (usize, i64)
     requires short { ⌜ isShort (length (now block)) ≡ true ⌝ }
+    requires rows { ⌜ now cosines ≡ rowOf (C Standard) (length (now block)) ⌝ ∗ ⌜ now sines ≡ rowOf (S Standard) (length (now block)) ⌝ }
+    requires matched { ⌜ Matched (now block) (now cosines) ⌝ ∗ ⌜ Matched (now block) (now sines) ⌝ }
     requires at { ⌜ n < length (now block) ⌝ }
     requires few { ⌜ count ≤ 81 ⌝ }
-    requires readings { ⌜ Small (2 ^ 40) (now block) ⌝ }
     ensures { λ r. ⌜ r ≡ (count + length (now (block .entry)), bin (tablesOf Standard (length (now (block .entry)))) (reading (now (block .entry))) n) ⌝ }
 {
     if n <= block.len() / 2 {
-        weigh(block, cosines(Scale::Standard, block.len()), n, count)
+        weigh(block, cosines, n, count)
     } else {
-        let (made, sum) = weigh(block, sines(Scale::Standard, block.len()), n, count);
+        let (made, sum) = weigh(block, sines, n, count);
         (made, -sum)
     }
 }
@@ -80,13 +81,15 @@ fn bins(block: &[i64], image: &mut [i64]) -> usize
     ensures made { λ r. ⌜ r ≡ length (now (block .entry)) * length (now (block .entry)) ⌝ }
     ensures writes { λ _. ⌜ now (image .exit) ≡ imageOf (tablesOf Standard (length (now (block .entry)))) (now (block .entry)) ⌝ }
 {
-    let mut made = 0;
+    let cosines = cosines(Scale::Standard, block.len());
+    let sines = sines(Scale::Standard, block.len());
+    let mut count = 0;
     for n in 0..block.len() {
-        let (next, bin) = one_bin(block, n, made);
+        let (made, bin) = one_bin(block, cosines, sines, n, count);
         image[n] = bin;
-        made = next;
+        count = made;
     }
-    made
+    count
 }
 
 pub impl Kernel for Direct as DirectKernel {

@@ -14,20 +14,29 @@ use Rattle.kernel.proofs.Image.{image-is}
 use Rattle.tables.specs.declared.scale.Scale.the-variants.{Standard}
 use Rattle.tables.specs.Entries.{tablesOf}
 use Rattle.tables.proofs.Lengths.{bounds}
+use Rattle.short.proofs.Weigh.{cosines-matched, sines-matched}
 use Rattle.short.proofs.direct.bins.Needs as need
 
-pub one-bin-next-requires : need.one-bin-next-requires
-one-bin-next-requires c κs =
-    let most = bounds (length (c .args .block .now)) (c .pre .short) .1 in
-    let few = mul-le-mul {n₁ = c .loop-n .n} {m₁ = length (c .args .block .now)} {n₂ = 9} {m₂ = 9} (omega arith) most in
-    record { short = c .pre .short; at = c .loop-n-test .taken; few = omega arith; readings = c .pre .readings }
+pub one-bin-made-requires : need.one-bin-made-requires
+one-bin-made-requires c κs =
+    let r = c .args .block .now in
+    let cosines = c .cosines-cosines .ensures .row in
+    let sines = c .sines-sines .ensures .row in
+    let few = mul-le-mul {n₁ = c .loop-n .n} {m₁ = length r} {n₂ = 9} {m₂ = 9} (omega (arith, bounds (length r) (c .pre .short) .1)) (bounds (length r) (c .pre .short) .1) in
+    record {
+      short = c .pre .short;
+      rows = (cosines, sines);
+      matched = (rw cosines (cosines-matched r (c .pre .short) (c .pre .readings)), rw sines (sines-matched r (c .pre .short) (c .pre .readings)));
+      at = c .loop-n-test .taken;
+      few = omega arith;
+    }
 
 pub loop-n-again : need.loop-n-again
 loop-n-again c =
-    let f : SFits w64 (c .one-bin-next .result .1) = search needs in
-    let e = toZ-ofZ w64 (c .one-bin-next .result .1) f ∙ ap (λ p. p .1) (c .one-bin-next .ensures) in
+    let f : SFits w64 (c .one-bin-made .result .1) = search needs in
+    let e = toZ-ofZ w64 (c .one-bin-made .result .1) f ∙ ap (λ p. p .1) (c .one-bin-made .ensures) in
     let l : c .loop-n .n < length (c .loop-n .image) = omega arith in (
-      ap (λ p. p .0) (c .one-bin-next .ensures) ∙ omega (arith, add-mul (c .loop-n .n) 1 (length (c .args .block .now))),
+      ap (λ p. p .0) (c .one-bin-made .ensures) ∙ omega (arith, add-mul (c .loop-n .n) 1 (length (c .args .block .now))),
       below-more _ _
           (λ i h. let other : i ≢ c .loop-n .n = omega arith in rw getD-set-other (c .loop-n .inv .1 i h))
           (rw getD-set-same e),

@@ -9,5 +9,5 @@ use Rattle.short.proofs.direct.bins.Given as given
 
 abbrev pub Inv-loop-n : given.InvT-loop-n
 Inv-loop-n l =
-    (l .made ≡ l .n * length (l .block))
+    (l .count ≡ l .n * length (l .block))
     × ((i : ℕ) → i < l .n → getD (l .image) i (pos 0) ≡ bin (tablesOf Standard (length (l .block))) (reading (l .block)) i)
