@@ -2,7 +2,7 @@
 use mathlib.Core.Bool.{Bool, true, false, cond}
 use mathlib.Core.List.{List}
 use mathlib.Core.Path.{_≡_, refl, subst}
-use Prim.Native.Nat.{ℕ, _*_, _^_, _≤_}
+use Prim.Native.Nat.{ℕ, _*_, _≤_}
 use native.Mathlib.Omega.{arith}
 use lib.IntN.{ℤ}
 use lib.ListN.{length}
@@ -17,7 +17,7 @@ use Rattle.tables.specs.declared.scale.Scale.the-variants.{Standard}
 use Rattle.tables.specs.Entries.{isShort}
 use Rattle.tables.proofs.Laws.{short-laws}
 use Rattle.tables.proofs.Lengths.{bounds}
-use Rattle.short.specs.Short.{fitShort, unfitShort, short, Small}
+use Rattle.short.specs.Short.{shortLimit, fitShort, unfitShort, short, Small}
 
 fit : (N count : ℕ) → isShort N ≡ true → count ≤ N * N → Fit (fitShort N count)
 fit N count e few =
@@ -53,7 +53,7 @@ pub record Taken (N : ℕ) (r : List ℤ) (k : ℕ) : Type 0 where
   pub short : isShort N ≡ true
   pub block : length r ≡ N
   pub image : k ≡ N
-  pub readings : Small (2 ^ 40) r
+  pub readings : Small shortLimit r
 
 pub taken : (N count : ℕ) (t : Told) (layer : Layer) (r : List ℤ) (k : ℕ) (y : Unit {0}) → t ≡ told (short N count) → Ok y ≡ answered tt (refused t layer r k) → Taken N r k
 taken N count t layer r k y is e = go (isShort N) refl (subst (λ t. Admitted t r k) is (admitted t layer r k (not-refused tt y (refused t layer r k) e)))

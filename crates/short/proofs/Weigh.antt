@@ -5,6 +5,7 @@ use mathlib.Core.Path.{_≡_, refl, sym, ap, _∙_}
 use Prim.Native.Nat.{ℕ, _+_, _*_, _/_, _%_, _^_, _<_, _≤_}
 use native.Mathlib.Nat.{mod-lt, mul-le-mul}
 use native.Mathlib.Omega.{arith}
+use lib.Dec.{lit<, lit≤}
 use lib.IntN.{ℤ, pos, natAbs, negℤ, _+ℤ_, _-ℤ_, _*ℤ_}
 use lib.ListN.{length, getD}
 use mir.Syntax.{w64}
@@ -12,36 +13,39 @@ use mir.Val.{SFits}
 use Rattle.std.proofs.shelf.Tests.{le-leb, lt-leb}
 use Rattle.algebra.specs.Sums.{Σ}
 use Rattle.algebra.proofs.Integers.{abs-mul}
-use Rattle.algebra.proofs.Ring.{var, neg, _⊗_}
+use Rattle.algebra.proofs.Ring.{var, neg}
 use Rattle.algebra.proofs.Sums.{Σ-cong, Σ-bound}
-use Rattle.algebra.proofs.Words.{word, run-is, run-fits, stored-is, add-term}
+use Rattle.algebra.proofs.Words.{word, word-is, word-fits, run-fits, stored-is, add-term}
 use Rattle.kernel.specs.Bins.{reading, bin}
+use Rattle.tables.specs.declared.scale.Scale.{Scale}
 use Rattle.tables.specs.declared.scale.Scale.the-variants.{Standard}
-use Rattle.tables.specs.Entries.{isShort, rowOf, tablesOf, C, S}
+use Rattle.tables.specs.Entries.{scaleOf, isShort, rowOf, tablesOf, C, S}
 use Rattle.tables.proofs.Laws.{short-laws}
 use Rattle.tables.proofs.Lengths.{bounds}
 use Rattle.tables.proofs.Listed.{row-length, row-at}
-use Rattle.short.specs.Short.{Small, Matched}
+use Rattle.short.specs.Short.{shortLimit, Small, Matched}
 
 -- reading k times the entry that bin n gives it
 abbrev pub term : List ℤ → List ℤ → ℕ → ℕ → ℤ
 term r row n k = reading r k *ℤ getD row (n * k % length row) (pos 0)
 
-module _ (r row : List ℤ) (n : ℕ) (m : Matched r row) where
+module _ (L g : ℕ) (r row : List ℤ) (n : ℕ) (m : Matched L g r row) where
   place : (k : ℕ) → k < length r → n * k % length row < length row
   place k l = mod-lt (n * k) (omega (arith, m .lengths))
 
   term-small : (k : ℕ) → k < length r → natAbs (term r row n k) ≤ 2 ^ 54
-  term-small k l = rw abs-mul (mul-le-mul (m .readings k l) (m .entries (n * k % length row) (place k l)))
+  term-small k l =
+      let both = mul-le-mul (m .readings k l) (m .entries (n * k % length row) (place k l)) in
+      rw abs-mul (omega (arith, m .room))
 
   -- the product of turn k
   pub made : (k at : ℕ) → k < length r → at ≡ n * k % length row
       → SFits w64 (word (reading r k) *ℤ word (getD row at (pos 0))) × (word (reading r k) *ℤ word (getD row at (pos 0)) ≡ term r row n k)
   made k at l e =
-      let entry : natAbs (getD row at (pos 0)) ≤ 16384 = rw e (m .entries (n * k % length row) (place k l)) in
-      let ρ = reading r k ∷ getD row at (pos 0) ∷ [] in
-      let β = 2 ^ 40 ∷ 16384 ∷ [] in
-      (run-fits ρ β (m .readings k l, (entry, tt)) (var 0 ⊗ var 1) tt, run-is ρ β (m .readings k l, (entry, tt)) (var 0 ⊗ var 1) tt ∙ ap (λ i. reading r k *ℤ getD row i (pos 0)) e)
+      let entry = m .entries (n * k % length row) (place k l) in
+      let same : word (reading r k) *ℤ word (getD row at (pos 0)) ≡ term r row n k =
+      rw (e, word-is (reading r k) (omega (arith, m .readings k l, m .L-room)), word-is (getD row (n * k % length row) (pos 0)) (omega (arith, m .g-room))) in
+      (rw same (word-fits (term r row n k) (omega (arith, term-small k l))), same)
 
   pub added : (k : ℕ) (s x : ℤ) → k < length r → s ≡ Σ k (term r row n) → x ≡ term r row n k
       → SFits w64 (s +ℤ word x) × (word (s +ℤ word x) ≡ Σ (k + 1) (term r row n))
@@ -51,7 +55,7 @@ module _ (r row : List ℤ) (n : ℕ) (m : Matched r row) where
   whole-small = omega (arith, m .few, Σ-bound (length r) (2 ^ 54) (term r row n) term-small)
 
 -- the sum over a table's row is the sum over the table
-pub over-row : (table : ℕ → ℕ → ℤ) (r : List ℤ) (n : ℕ) → isShort (length r) ≡ true
+over-row : (table : ℕ → ℕ → ℤ) (r : List ℤ) (n : ℕ) → isShort (length r) ≡ true
     → Σ (length r) (term r (rowOf table (length r)) n) ≡ Σ (length r) (λ k. reading r k *ℤ table (length r) (n * k % length r))
 over-row table r n e =
     Σ-cong (length r) (term r (rowOf table (length r)) n) (λ k. reading r k *ℤ table (length r) (n * k % length r))
@@ -59,43 +63,47 @@ over-row table r n e =
     let N = length r in
     rw (row-length table N e) (ap (λ x. reading r k *ℤ x) (row-at table N e (n * k % N) (mod-lt (n * k) {m = N} (omega arith)))))
 
-pub row-matched : (table : ℕ → ℕ → ℤ) (r : List ℤ) → isShort (length r) ≡ true → Small (2 ^ 40) r → ((m : ℕ) → natAbs (table (length r) m) ≤ 16384)
-    → Matched r (rowOf table (length r))
-row-matched table r e readings size =
+-- what `weigh` answers over the row of cosines, and over the row of sines, whose sum is negated in a word
+module _ (s : Scale) (L g : ℕ) (r : List ℤ) (n : ℕ) (e : isShort (length r) ≡ true) (row : List ℤ) (m : Matched L g r row) (made : ℕ) (p : ℕ × ℤ) (is : p ≡ (made, Σ (length r) (term r row n))) where
+  pub cosine-bin : row ≡ rowOf (C s) (length r) → n ≤ length r / 2 → p ≡ (made, bin (tablesOf s (length r)) (reading r) n)
+  unfolding bin
+  cosine-bin e-row h =
+      let sum : Σ (length r) (term r row n) ≡ Σ (length r) (λ k. reading r k *ℤ C s (length r) (n * k % length r)) =
+      rw e-row (over-row (C s) r n e) in
+      rw (le-leb n (length r / 2) h) (is ∙ ap (λ x. (made, x)) sum)
+
+  pub sine-bin : row ≡ rowOf (S s) (length r) → length r / 2 < n
+      → SFits w64 (pos 0 -ℤ word (p .1)) × (_≡_ {A = ℕ × ℤ} (p .0, word (pos 0 -ℤ word (p .1))) (made, bin (tablesOf s (length r)) (reading r) n))
+  unfolding bin
+  sine-bin e-row h =
+      let first : p .0 ≡ made = ap (λ q. q .0) is in
+      let second : p .1 ≡ Σ (length r) (term r row n) = ap (λ q. q .1) is in
+      let small : natAbs (p .1) ≤ 2 ^ 60 = rw second (whole-small L g r row n m) in
+      let sum : Σ (length r) (term r row n) ≡ Σ (length r) (λ k. reading r k *ℤ S s (length r) (n * k % length r)) =
+      rw e-row (over-row (S s) r n e) in
+      let ρ = p .1 ∷ [] in
+      let β = 2 ^ 60 ∷ [] in
+      let negated = stored-is ρ β (small, tt) (neg (var 0)) tt ∙ ap negℤ (second ∙ sum) in
+      (run-fits ρ β (small, tt) (neg (var 0)) tt, rw (lt-leb n (length r / 2) h) (cc))
+
+-- a block of a short length and the row of a table of that length
+row-matched : (L g : ℕ) (table : ℕ → ℕ → ℤ) (r : List ℤ) → isShort (length r) ≡ true → L < 2 ^ 63 → g < 2 ^ 63 → L * g ≤ 2 ^ 54
+    → Small L r → ((m : ℕ) → natAbs (table (length r) m) ≤ g) → Matched L g r (rowOf table (length r))
+row-matched L g table r e L-room g-room room readings size =
     let l = row-length table (length r) e in
     record {
       lengths = sym l;
       few = bounds (length r) e .1;
+      L-room = L-room;
+      g-room = g-room;
+      room = room;
       readings = readings;
       entries = λ k h. rw (row-at table (length r) e k (omega arith)) (size k);
     }
 
-pub cosines-matched : (r : List ℤ) → isShort (length r) ≡ true → Small (2 ^ 40) r → Matched r (rowOf (C Standard) (length r))
-cosines-matched r e readings = row-matched (C Standard) r e readings (short-laws (length r) e .C-size Standard)
+module _ (r : List ℤ) (e : isShort (length r) ≡ true) (readings : Small shortLimit r) where
+  pub cosines-matched : Matched shortLimit (scaleOf Standard) r (rowOf (C Standard) (length r))
+  cosines-matched = row-matched shortLimit (scaleOf Standard) (C Standard) r e (lit< tt) (lit< tt) (lit≤ tt) readings (short-laws (length r) e .C-size Standard)
 
-pub sines-matched : (r : List ℤ) → isShort (length r) ≡ true → Small (2 ^ 40) r → Matched r (rowOf (S Standard) (length r))
-sines-matched r e readings = row-matched (S Standard) r e readings (short-laws (length r) e .S-size Standard)
-
-module _ (r : List ℤ) (n : ℕ) (e : isShort (length r) ≡ true) (row : List ℤ) (m : Matched r row) where
-  -- what `weigh` answers over the row of cosines, and over the row of sines, whose sum is negated in a word
-  pub cosine-bin : (made : ℕ) (p : ℕ × ℤ) → row ≡ rowOf (C Standard) (length r) → p ≡ (made, Σ (length r) (term r row n))
-      → n ≤ length r / 2 → p ≡ (made, bin (tablesOf Standard (length r)) (reading r) n)
-  unfolding bin
-  cosine-bin made p e-row e-p h =
-      let sum : Σ (length r) (term r row n) ≡ Σ (length r) (λ k. reading r k *ℤ C Standard (length r) (n * k % length r)) =
-      rw e-row (over-row (C Standard) r n e) in
-      rw (le-leb n (length r / 2) h) (e-p ∙ ap (λ x. (made, x)) sum)
-
-  pub sine-bin : (made : ℕ) (p : ℕ × ℤ) → row ≡ rowOf (S Standard) (length r) → p ≡ (made, Σ (length r) (term r row n))
-      → length r / 2 < n
-      → SFits w64 (pos 0 -ℤ word (p .1)) × (_≡_ {A = ℕ × ℤ} (p .0, word (pos 0 -ℤ word (p .1))) (made, bin (tablesOf Standard (length r)) (reading r) n))
-  unfolding bin
-  sine-bin made p e-row e-p h =
-      let first : p .0 ≡ made = ap (λ q. q .0) e-p in
-      let sum : p .1 ≡ Σ (length r) (term r (rowOf (S Standard) (length r)) n) =
-      ap (λ q. q .1) e-p ∙ ap (λ row. Σ (length r) (term r row n)) e-row in
-      let small : natAbs (p .1) ≤ 2 ^ 60 = rw (ap (λ q. q .1) e-p) (whole-small r row n m) in
-      let ρ = p .1 ∷ [] in
-      let β = 2 ^ 60 ∷ [] in
-      let negated = stored-is ρ β (small, tt) (neg (var 0)) tt ∙ ap negℤ (sum ∙ over-row (S Standard) r n e) in
-      (run-fits ρ β (small, tt) (neg (var 0)) tt, rw (lt-leb n (length r / 2) h) (cc))
+  pub sines-matched : Matched shortLimit (scaleOf Standard) r (rowOf (S Standard) (length r))
+  sines-matched = row-matched shortLimit (scaleOf Standard) (S Standard) r e (lit< tt) (lit< tt) (lit≤ tt) readings (short-laws (length r) e .S-size Standard)

@@ -13,13 +13,17 @@ use Rattle.kernel.specs.Meaning.{Meaning}
 use Rattle.tables.specs.declared.scale.Scale.the-variants.{Standard}
 use Rattle.tables.specs.Entries.{scaleOf, isShort, tablesOf}
 
+-- the largest size of a reading
+abbrev pub shortLimit : ℕ
+shortLimit = 2 ^ 40
+
 -- a fit kernel of length N that makes so many products
 abbrev pub fitShort : ℕ → ℕ → Meaning
 fitShort N count = record {
   fault = None;
   layer = Short;
   gain = scaleOf Standard;
-  limit = 2 ^ 40;
+  limit = shortLimit;
   scale = scaleOf Standard;
   count = count;
   tables = tablesOf Standard N;
@@ -47,9 +51,13 @@ direct N = short N (N * N)
 abbrev pub Small : ℕ → List ℤ → Type 0
 Small b r = (k : ℕ) → k < length r → natAbs (reading r k) ≤ b
 
--- a block and a table's row of one short length, whose products and their sum have room in a word
-pub record Matched (r row : List ℤ) : Type 0 where
+-- a block with readings up to L and a table's row with entries up to g, of one length up to 9: their products and the sum of
+-- these have room in a word
+pub record Matched (L g : ℕ) (r row : List ℤ) : Type 0 where
   pub lengths : length r ≡ length row
   pub few : length r ≤ 9
-  pub readings : Small (2 ^ 40) r
-  pub entries : Small 16384 row
+  pub L-room : L < 2 ^ 63
+  pub g-room : g < 2 ^ 63
+  pub room : L * g ≤ 2 ^ 54
+  pub readings : Small L r
+  pub entries : Small g row

@@ -5,9 +5,9 @@ ghost use lib.IntN.{pos, _*ℤ_, natAbs};
 ghost use lib.ListN.{length, getD};
 ghost use Rattle.algebra.specs.Sums.{Σ};
 ghost use Rattle.kernel.specs.Bins.{reading, bin, image as imageOf};
-ghost use Rattle.short.specs.Short.{direct, Small, Matched};
+ghost use Rattle.short.specs.Short.{direct, shortLimit, Small, Matched};
 ghost use Rattle.tables.specs.declared.scale.Scale.the-variants.{Standard};
-ghost use Rattle.tables.specs.Entries.{isShort, tablesOf, rowOf, C, S};
+ghost use Rattle.tables.specs.Entries.{scaleOf, isShort, tablesOf, rowOf, C, S};
 use crate::figures::fit;
 use crate::figures::unfit;
 use crate::product::product;
@@ -36,7 +36,7 @@ impl Direct {
 
 // The readings times every n-th entry of the row, round its end, added up; and the count of products.
 fn weigh(block: &[i64], row: &[i64], n: usize, count: usize) -> (usize, i64)
-    requires rows { ⌜ Matched (now block) (now row) ⌝ }
+    requires rows { ⌜ Matched shortLimit (scaleOf Standard) (now block) (now row) ⌝ }
     requires step { ⌜ n < length (now row) ⌝ }
     requires few { ⌜ count ≤ 81 ⌝ }
     ensures { λ r. ⌜ r ≡ (count + length (now (block .entry)), Σ (length (now (block .entry))) (λ k. reading (now (block .entry)) k *ℤ getD (now (row .entry)) (n * k % length (now (row .entry))) (pos 0))) ⌝ }
@@ -60,7 +60,7 @@ fn weigh(block: &[i64], row: &[i64], n: usize, count: usize) -> (usize, i64)
 fn one_bin(block: &[i64], cosines: &[i64], sines: &[i64], n: usize, count: usize) -> (usize, i64)
     requires short { ⌜ isShort (length (now block)) ≡ true ⌝ }
     requires rows { ⌜ now cosines ≡ rowOf (C Standard) (length (now block)) ⌝ ∗ ⌜ now sines ≡ rowOf (S Standard) (length (now block)) ⌝ }
-    requires matched { ⌜ Matched (now block) (now cosines) ⌝ ∗ ⌜ Matched (now block) (now sines) ⌝ }
+    requires matched { ⌜ Matched shortLimit (scaleOf Standard) (now block) (now cosines) ⌝ ∗ ⌜ Matched shortLimit (scaleOf Standard) (now block) (now sines) ⌝ }
     requires at { ⌜ n < length (now block) ⌝ }
     requires few { ⌜ count ≤ 81 ⌝ }
     ensures { λ r. ⌜ r ≡ (count + length (now (block .entry)), bin (tablesOf Standard (length (now (block .entry)))) (reading (now (block .entry))) n) ⌝ }
@@ -77,7 +77,7 @@ fn one_bin(block: &[i64], cosines: &[i64], sines: &[i64], n: usize, count: usize
 fn bins(block: &[i64], image: &mut [i64]) -> usize
     requires short { ⌜ isShort (length (now block)) ≡ true ⌝ }
     requires room { ⌜ length (now image) ≡ length (now block) ⌝ }
-    requires readings { ⌜ Small (2 ^ 40) (now block) ⌝ }
+    requires readings { ⌜ Small shortLimit (now block) ⌝ }
     ensures made { λ r. ⌜ r ≡ length (now (block .entry)) * length (now (block .entry)) ⌝ }
     ensures writes { λ _. ⌜ now (image .exit) ≡ imageOf (tablesOf Standard (length (now (block .entry)))) (now (block .entry)) ⌝ }
 {

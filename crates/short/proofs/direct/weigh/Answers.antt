@@ -15,7 +15,7 @@ loop-value-holds c = (omega arith, refl, rw (mul-zero, zero-mod), omega arith)
 
 pub product-next-requires : need.product-next-requires
 product-next-requires c κs =
-    let m = made (c .args .block .now) (c .args .row .now) (c .args .n) (c .pre .rows) (c .loop-value .value-index) (c .loop-value .at) (c .loop-value-test .taken) (c .loop-value .inv .2) in
+    let m = made _ _ (c .args .block .now) (c .args .row .now) (c .args .n) (c .pre .rows) (c .loop-value .value-index) (c .loop-value .at) (c .loop-value-test .taken) (c .loop-value .inv .2) in
     record { few = omega (arith, c .pre .rows .few); room = m .0 }
 
 pub add-sum : need.add-sum
@@ -23,8 +23,8 @@ add-sum c =
     let r = c .args .block .now in
     let row = c .args .row .now in
     let k = c .loop-value .value-index in
-    let m = made r row (c .args .n) (c .pre .rows) k (c .loop-value .at) (c .loop-value-test .taken) (c .loop-value .inv .2) in
-    added r row (c .args .n) (c .pre .rows) k _ (c .product-next .result .1) (c .loop-value-test .taken) (c .loop-value .inv .1) (ap (λ p. p .1) (c .product-next .ensures) ∙ m .1) .0
+    let m = made _ _ r row (c .args .n) (c .pre .rows) k (c .loop-value .at) (c .loop-value-test .taken) (c .loop-value .inv .2) in
+    added _ _ r row (c .args .n) (c .pre .rows) k _ (c .product-next .result .1) (c .loop-value-test .taken) (c .loop-value .inv .1) (ap (λ p. p .1) (c .product-next .ensures) ∙ m .1) .0
 
 pub loop-value-again : need.loop-value-again
 loop-value-again c =
@@ -32,8 +32,8 @@ loop-value-again c =
     let row = c .args .row .now in
     let n = c .args .n in
     let k = c .loop-value .value-index in
-    let m = made r row n (c .pre .rows) k (c .loop-value .at) (c .loop-value-test .taken) (c .loop-value .inv .2) in
-    let a = added r row n (c .pre .rows) k _ (c .product-next .result .1) (c .loop-value-test .taken) (c .loop-value .inv .1) (ap (λ p. p .1) (c .product-next .ensures) ∙ m .1) in
+    let m = made _ _ r row n (c .pre .rows) k (c .loop-value .at) (c .loop-value-test .taken) (c .loop-value .inv .2) in
+    let a = added _ _ r row n (c .pre .rows) k _ (c .product-next .result .1) (c .loop-value-test .taken) (c .loop-value .inv .1) (ap (λ p. p .1) (c .product-next .ensures) ∙ m .1) in
     let next : c .if-at-row .at ≡ n * (k + 1) % length row =
     elim (c .if-at-row .came) [
       | then-at-row w ↦ remainder-step (length row) n k (c .loop-value .at) (c .if-at-row .at) (c .pre .step) (c .loop-value .inv .2) (λ h. absurd (omega (arith, w .if-at-row .taken))) (λ _. w .at-is)
