@@ -1,5 +1,4 @@
 ghost use mathlib.Core.Path.{_≡_};
-ghost use lib.ListN.{length};
 ghost use Rattle.kernel.specs.Refusal.{firstAbove, refused, answered};
 use crate::fault::KernelFault;
 use crate::fault::Layer;

@@ -10,7 +10,7 @@ use Rattle.std.specs.declared.option.Option.the-variants.{Some, None}
 use Rattle.std.specs.declared.result.Result.the-variants.{Ok}
 use Rattle.kernel.specs.declared.fault.Layer.{Layer}
 use Rattle.kernel.specs.declared.told.Told.{Told}
-use Rattle.kernel.specs.Meaning.{Meaning, Fit, Idle, Lawful, told}
+use Rattle.kernel.specs.Meaning.{Fit, Idle, Lawful, told}
 use Rattle.kernel.specs.Refusal.{refused, answered}
 use Rattle.kernel.proofs.Admitted.{Admitted, admitted, not-refused}
 use Rattle.tables.specs.declared.scale.Scale.the-variants.{Standard}

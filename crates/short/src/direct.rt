@@ -1,8 +1,8 @@
 ghost use mathlib.Core.Path.{_≡_};
 ghost use mathlib.Core.Bool.{true};
-ghost use Prim.Native.Nat.{ℕ, _+_, _*_, _%_, _<_, _≤_, _^_};
-ghost use lib.IntN.{pos, _*ℤ_, natAbs};
-ghost use lib.ListN.{length, getD};
+ghost use Prim.Native.Nat.{_+_, _*_, _%_, _<_, _≤_};
+ghost use lib.IntN.{pos, _*ℤ_};
+ghost use lib.ListN.{length as size, getD};
 ghost use Rattle.algebra.specs.Sums.{Σ};
 ghost use Rattle.kernel.specs.Bins.{reading, bin, image as imageOf};
 ghost use Rattle.short.specs.Short.{direct, shortLimit, Small, Matched};
@@ -37,9 +37,9 @@ impl Direct {
 // The readings times every n-th entry of the row, round its end, added up; and the count of products.
 fn weigh(block: &[i64], row: &[i64], n: usize, count: usize) -> (usize, i64)
     requires rows { ⌜ Matched shortLimit (scaleOf Standard) (now block) (now row) ⌝ }
-    requires step { ⌜ n < length (now row) ⌝ }
+    requires step { ⌜ n < size (now row) ⌝ }
     requires few { ⌜ count ≤ 81 ⌝ }
-    ensures { λ r. ⌜ r ≡ (count + length (now (block .entry)), Σ (length (now (block .entry))) (λ k. reading (now (block .entry)) k *ℤ getD (now (row .entry)) (n * k % length (now (row .entry))) (pos 0))) ⌝ }
+    ensures { λ r. ⌜ r ≡ (count + size (now (block .entry)), Σ (size (now (block .entry))) (λ k. reading (now (block .entry)) k *ℤ getD (now (row .entry)) (n * k % size (now (row .entry))) (pos 0))) ⌝ }
 {
     let mut made = count;
     let mut sum: i64 = 0;
@@ -58,12 +58,12 @@ fn weigh(block: &[i64], row: &[i64], n: usize, count: usize) -> (usize, i64)
 
 // Bin n of the block, from the rows of its length, and the count of products.
 fn one_bin(block: &[i64], cosines: &[i64], sines: &[i64], n: usize, count: usize) -> (usize, i64)
-    requires short { ⌜ isShort (length (now block)) ≡ true ⌝ }
-    requires rows { ⌜ now cosines ≡ rowOf (C Standard) (length (now block)) ⌝ ∗ ⌜ now sines ≡ rowOf (S Standard) (length (now block)) ⌝ }
+    requires short { ⌜ isShort (size (now block)) ≡ true ⌝ }
+    requires rows { ⌜ now cosines ≡ rowOf (C Standard) (size (now block)) ⌝ ∗ ⌜ now sines ≡ rowOf (S Standard) (size (now block)) ⌝ }
     requires matched { ⌜ Matched shortLimit (scaleOf Standard) (now block) (now cosines) ⌝ ∗ ⌜ Matched shortLimit (scaleOf Standard) (now block) (now sines) ⌝ }
-    requires at { ⌜ n < length (now block) ⌝ }
+    requires at { ⌜ n < size (now block) ⌝ }
     requires few { ⌜ count ≤ 81 ⌝ }
-    ensures { λ r. ⌜ r ≡ (count + length (now (block .entry)), bin (tablesOf Standard (length (now (block .entry)))) (reading (now (block .entry))) n) ⌝ }
+    ensures { λ r. ⌜ r ≡ (count + size (now (block .entry)), bin (tablesOf Standard (size (now (block .entry)))) (reading (now (block .entry))) n) ⌝ }
 {
     if n <= block.len() / 2 {
         weigh(block, cosines, n, count)
@@ -75,11 +75,11 @@ fn one_bin(block: &[i64], cosines: &[i64], sines: &[i64], n: usize, count: usize
 
 // Writes all bins of the block, and answers the count of products.
 fn bins(block: &[i64], image: &mut [i64]) -> usize
-    requires short { ⌜ isShort (length (now block)) ≡ true ⌝ }
-    requires room { ⌜ length (now image) ≡ length (now block) ⌝ }
+    requires short { ⌜ isShort (size (now block)) ≡ true ⌝ }
+    requires room { ⌜ size (now image) ≡ size (now block) ⌝ }
     requires readings { ⌜ Small shortLimit (now block) ⌝ }
-    ensures made { λ r. ⌜ r ≡ length (now (block .entry)) * length (now (block .entry)) ⌝ }
-    ensures writes { λ _. ⌜ now (image .exit) ≡ imageOf (tablesOf Standard (length (now (block .entry)))) (now (block .entry)) ⌝ }
+    ensures made { λ r. ⌜ r ≡ size (now (block .entry)) * size (now (block .entry)) ⌝ }
+    ensures writes { λ _. ⌜ now (image .exit) ≡ imageOf (tablesOf Standard (size (now (block .entry)))) (now (block .entry)) ⌝ }
 {
     let cosines = cosines(Scale::Standard, block.len());
     let sines = sines(Scale::Standard, block.len());

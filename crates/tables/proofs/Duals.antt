@@ -1,6 +1,6 @@
 -- Why only the block of zeros has bins that are all zero: tables by which the bins give the readings back, up to a factor.
 -- Assumes nothing.
-use mathlib.Core.Bool.{Bool, true, cond, _||_}
+use mathlib.Core.Bool.{true, cond, _||_}
 use mathlib.Core.List.{List, [], _∷_}
 use mathlib.Core.Path.{_≡_, sym, _∙_}
 use Prim.Native.Nat.{ℕ, _*_, _%_, pred}

@@ -1,6 +1,6 @@
 -- The tables of lengths 3 to 9 at two scales: each entry is the scale times a cosine or a sine, to the nearest whole number.
 -- Assumes nothing.
-use mathlib.Core.Bool.{Bool, true, false, cond, _&&_}
+use mathlib.Core.Bool.{Bool, cond, _&&_}
 use mathlib.Core.List.{List, [], _∷_, map}
 use Prim.Native.Nat.{ℕ, _-_, _*_, _%_, _^_, min}
 use lib.Dec.{leb, eqb}

@@ -1,4 +1,3 @@
-use mathlib.Core.Bool.{_&&_}
 use mathlib.Core.Path.{_≡_, sym, _∙_}
 use lib.Dec.{leb}
 use Rattle.std.proofs.shelf.Tests.{le-leb}
