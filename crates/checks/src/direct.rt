@@ -1,11 +1,13 @@
 use kernel::Kernel;
 use kernel::KernelFault;
 use kernel::Layer;
+use kernel::Told;
 use kernel::Unfit;
 use kernel::fault::KernelFaultDebug;
 use kernel::fault::KernelFaultPartialEq;
 use kernel::fault::UnfitDebug;
 use kernel::fault::UnfitPartialEq;
+use kernel::first_above;
 use short::Direct;
 use short::DirectKernel;
 use std::test::*;
@@ -124,6 +126,34 @@ fn checks_come_in_order() -> Result<(), Fail> {
         &mut [4; 3],
         KernelFault::Reading(Layer::Short, 0),
     )
+}
+
+#[test]
+fn figures_decide_what_is_admitted() -> Result<(), Fail> {
+    let told = Told {
+        fault: None,
+        length: 2,
+        gain: 1,
+        limit: 5,
+        scale: 1,
+        count: 0,
+    };
+    check_eq(told.admit(Layer::Product, &[5, -5], 2), Ok(()))?;
+    check_eq(
+        told.admit(Layer::Product, &[5, -6], 2),
+        Err(KernelFault::Reading(Layer::Product, 1)),
+    )?;
+    check_eq(
+        told.admit(Layer::Product, &[6, -6], 3),
+        Err(KernelFault::ImageLength(Layer::Product, 3)),
+    )?;
+    check_eq(
+        told.admit(Layer::Product, &[6], 3),
+        Err(KernelFault::BlockLength(Layer::Product, 1)),
+    )?;
+    check_eq(first_above(&[0, 7, -8], 7), Some(2))?;
+    check_eq(first_above(&[i64::MIN], u64::MAX), None)?;
+    check_eq(first_above(&[], 0), None)
 }
 
 // The fault has this number, place and letter.

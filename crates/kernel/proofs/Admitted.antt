@@ -27,6 +27,7 @@ pub record Admitted (t : Told) (r : List ℤ) (k : ℕ) : Type 0 where
   pub image : k ≡ t .length
   pub readings : (i : ℕ) → i < length r → natAbs (reading r i) ≤ t .limit
 
+-- where all of a list passes, each of its elements does
 leading-passes : {X : Type 0} (p : X → Bool) (xs : List X) (d : X) → length xs ≤ leading p xs → (i : ℕ) → i < length xs → p (getD xs i d) ≡ true
 leading-passes p [] d h i l = absurd (omega arith)
 leading-passes p (x ∷ xs) d h i l =
@@ -46,6 +47,9 @@ none-above limit r e i l =
     let h : length r ≤ within limit r = grind (arith, tells) in
     leb-true _ _ (leading-passes (λ x. leb (natAbs x) limit) r (pos 0) h i l)
 
+pub some-none : {X : Type 0} {x : X} → Some x ≡ None → ⊥
+some-none e = let z : _≡_ {A = ℕ} 0 1 = cc in omega arith
+
 -- a call that answers Ok was not refused
 pub not-refused : {X F : Type 0} (x y : X) (o : Option F) → Ok y ≡ answered x o → o ≡ None
 not-refused x y None e = refl
@@ -59,10 +63,7 @@ pub admitted : (t : Told) (layer : Layer) (r : List ℤ) (k : ℕ) → refused t
 admitted t layer r k e = go (t .fault) refl e
   where
     go : (f : Option Unfit) → t .fault ≡ f → unfitFirst f (misfit layer (t .length) (t .limit) r k) ≡ None → Admitted t r k
-    go (Some f) p q = absurd (never q)
-      where
-        never : {X : Type 0} {x : X} → Some x ≡ None → ⊥
-        never q = let z : _≡_ {A = ℕ} 0 1 = cc in omega arith
+    go (Some f) p q = absurd (some-none q)
     go None p q =
         let block : length r ≡ t .length = grind (arith, tells) in
         let image : k ≡ t .length = grind (arith, tells) in

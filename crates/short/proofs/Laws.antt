@@ -6,13 +6,12 @@ use Prim.Native.Nat.{ℕ, _*_, _≤_}
 use native.Mathlib.Omega.{arith}
 use lib.IntN.{ℤ}
 use lib.ListN.{length}
-use Rattle.std.specs.declared.option.Option.the-variants.{Some, None}
 use Rattle.std.specs.declared.result.Result.the-variants.{Ok}
 use Rattle.kernel.specs.declared.fault.Layer.{Layer}
 use Rattle.kernel.specs.declared.told.Told.{Told}
 use Rattle.kernel.specs.Meaning.{Fit, Idle, Lawful, told}
 use Rattle.kernel.specs.Refusal.{refused, answered}
-use Rattle.kernel.proofs.Admitted.{Admitted, admitted, not-refused}
+use Rattle.kernel.proofs.Admitted.{Admitted, admitted, not-refused, some-none}
 use Rattle.tables.specs.declared.scale.Scale.the-variants.{Standard}
 use Rattle.tables.specs.Entries.{isShort}
 use Rattle.tables.proofs.Laws.{short-laws}
@@ -60,7 +59,4 @@ taken N count t layer r k y is e = go (isShort N) refl (subst (λ t. Admitted t 
   where
     go : (b : Bool) → isShort N ≡ b → Admitted (told (cond b (fitShort N count) (unfitShort N))) r k → Taken N r k
     go true s a = record { short = s; block = a .block; image = a .image; readings = a .readings }
-    go false s a = absurd (never (a .fit))
-      where
-        never : {X : Type 0} {x : X} → Some x ≡ None → ⊥
-        never q = let z : _≡_ {A = ℕ} 0 1 = cc in omega arith
+    go false s a = absurd (some-none (a .fit))

@@ -47,9 +47,12 @@ module _ (L g : ℕ) (r row : List ℤ) (n : ℕ) (m : Matched L g r row) where
       rw (e, word-is (reading r k) (omega (arith, m .readings k l, m .L-room)), word-is (getD row (n * k % length row) (pos 0)) (omega (arith, m .g-room))) in
       (rw same (word-fits (term r row n k) (omega (arith, term-small k l))), same)
 
-  pub added : (k : ℕ) (s x : ℤ) → k < length r → s ≡ Σ k (term r row n) → x ≡ term r row n k
-      → SFits w64 (s +ℤ word x) × (word (s +ℤ word x) ≡ Σ (k + 1) (term r row n))
-  added k s x l es ex = add-term (length r) (2 ^ 54) (term r row n) (omega (arith, m .few)) term-small k s x l es ex
+  -- the sum after turn k, where `product` answered p
+  pub added : (k at count : ℕ) (s : ℤ) (p : ℕ × ℤ) → k < length r → at ≡ n * k % length row → s ≡ Σ k (term r row n)
+      → p ≡ (count, word (reading r k) *ℤ word (getD row at (pos 0)))
+      → SFits w64 (s +ℤ word (p .1)) × (word (s +ℤ word (p .1)) ≡ Σ (k + 1) (term r row n))
+  added k at count s p l e es ep =
+      add-term (length r) (2 ^ 54) (term r row n) (omega (arith, m .few)) term-small k s (p .1) l es (ap (λ q. q .1) ep ∙ made k at l e .1)
 
   pub whole-small : natAbs (Σ (length r) (term r row n)) ≤ 2 ^ 60
   whole-small = omega (arith, m .few, Σ-bound (length r) (2 ^ 54) (term r row n) term-small)

@@ -15,31 +15,29 @@ loop-value-holds c = (omega arith, refl, rw (mul-zero, zero-mod), omega arith)
 
 pub product-next-requires : need.product-next-requires
 product-next-requires c κs =
-    let m = made _ _ (c .args .block .now) (c .args .row .now) (c .args .n) (c .pre .rows) (c .loop-value .value-index) (c .loop-value .at) (c .loop-value-test .taken) (c .loop-value .inv .2) in
-    record { few = omega (arith, c .pre .rows .few); room = m .0 }
+    let l = c .loop-value in
+    let fits = made _ _ (c .args .block .now) (c .args .row .now) (c .args .n) (c .pre .rows) (l .value-index) (l .at) (c .loop-value-test .taken) (l .inv .2) .0 in
+    record { few = omega (arith, c .pre .rows .few); room = fits }
 
 pub add-sum : need.add-sum
 add-sum c =
-    let r = c .args .block .now in
-    let row = c .args .row .now in
-    let k = c .loop-value .value-index in
-    let m = made _ _ r row (c .args .n) (c .pre .rows) k (c .loop-value .at) (c .loop-value-test .taken) (c .loop-value .inv .2) in
-    added _ _ r row (c .args .n) (c .pre .rows) k _ (c .product-next .result .1) (c .loop-value-test .taken) (c .loop-value .inv .1) (ap (λ p. p .1) (c .product-next .ensures) ∙ m .1) .0
+    let l = c .loop-value in
+    added _ _ (c .args .block .now) (c .args .row .now) (c .args .n) (c .pre .rows) (l .value-index) (l .at) _ _ (c .product-next .result) (c .loop-value-test .taken) (l .inv .2) (l .inv .1) (c .product-next .ensures) .0
 
 pub loop-value-again : need.loop-value-again
 loop-value-again c =
-    let r = c .args .block .now in
+    let l = c .loop-value in
     let row = c .args .row .now in
     let n = c .args .n in
-    let k = c .loop-value .value-index in
-    let m = made _ _ r row n (c .pre .rows) k (c .loop-value .at) (c .loop-value-test .taken) (c .loop-value .inv .2) in
-    let a = added _ _ r row n (c .pre .rows) k _ (c .product-next .result .1) (c .loop-value-test .taken) (c .loop-value .inv .1) (ap (λ p. p .1) (c .product-next .ensures) ∙ m .1) in
+    let k = l .value-index in
+    let sum = added _ _ (c .args .block .now) row n (c .pre .rows) k (l .at) _ _ (c .product-next .result) (c .loop-value-test .taken) (l .inv .2) (l .inv .1) (c .product-next .ensures) .1 in
+    let step = remainder-step (length row) n k (l .at) (c .if-at-row .at) (c .pre .step) (l .inv .2) in
     let next : c .if-at-row .at ≡ n * (k + 1) % length row =
     elim (c .if-at-row .came) [
-      | then-at-row w ↦ remainder-step (length row) n k (c .loop-value .at) (c .if-at-row .at) (c .pre .step) (c .loop-value .inv .2) (λ h. absurd (omega (arith, w .if-at-row .taken))) (λ _. w .at-is)
-      | else-at-row w ↦ remainder-step (length row) n k (c .loop-value .at) (c .if-at-row .at) (c .pre .step) (c .loop-value .inv .2) (λ _. w .at-is) (λ h. absurd (omega (arith, w .if-at-row .left)))
+      | then-at-row w ↦ step (λ h. absurd (omega (arith, w .if-at-row .taken))) (λ _. w .at-is)
+      | else-at-row w ↦ step (λ _. w .at-is) (λ h. absurd (omega (arith, w .if-at-row .left)))
     ] in
-    (ap (λ p. p .0) (c .product-next .ensures) ∙ omega arith, a .1, next, rw next (mod-lt (n * (k + 1)) (omega arith)))
+    (ap (λ p. p .0) (c .product-next .ensures) ∙ omega arith, sum, next, rw next (mod-lt (n * (k + 1)) (omega arith)))
 
 pub returns : need.returns
 returns c =
