@@ -16,7 +16,8 @@ use Rattle.tables.specs.declared.scale.Scale.the-variants.{Standard}
 use Rattle.tables.specs.Entries.{isShort}
 use Rattle.tables.proofs.Laws.{short-laws}
 use Rattle.tables.proofs.Lengths.{bounds}
-use Rattle.short.specs.Short.{shortLimit, fitShort, unfitShort, short, Small}
+use Rattle.short.specs.Room.{Small}
+use Rattle.short.specs.Short.{shortLimit, fitShort, unfitShort, short}
 
 fit : (N count : ℕ) → isShort N ≡ true → count ≤ N * N → Fit (fitShort N count)
 fit N count e few =

@@ -23,7 +23,8 @@ use Rattle.tables.specs.Entries.{scaleOf, isShort, rowOf, tablesOf, C, S}
 use Rattle.tables.proofs.Laws.{short-laws}
 use Rattle.tables.proofs.Lengths.{bounds}
 use Rattle.tables.proofs.Listed.{row-length, row-at}
-use Rattle.short.specs.Short.{shortLimit, Small, Matched}
+use Rattle.short.specs.Room.{Small, Matched}
+use Rattle.short.specs.Short.{shortLimit}
 
 -- reading k times the entry that bin n gives it
 abbrev pub term : List ℤ → List ℤ → ℕ → ℕ → ℤ
