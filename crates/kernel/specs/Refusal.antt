@@ -19,6 +19,7 @@ use Rattle.kernel.specs.declared.fault.KernelFault.{KernelFault}
 use Rattle.kernel.specs.declared.fault.KernelFault.the-variants.{Unfit, BlockLength, ImageLength, Reading}
 use Rattle.kernel.specs.declared.fault.Code.{Code}
 use Rattle.kernel.specs.declared.told.Told.{Told}
+use Rattle.kernel.specs.Bins.{image}
 use Rattle.kernel.specs.Meaning.{Meaning, told}
 
 -- how many readings stand before the first that is larger in size than the limit
@@ -49,7 +50,7 @@ refused t layer r k = unfitFirst (t .fault) (misfit layer (t .length) (t .limit)
 abbrev pub refusal : Meaning → List ℤ → ℕ → Option KernelFault
 refusal m r k = refused (told m) (m .layer) r k
 
--- the answer of a call, and what a buffer then holds
+-- a call answers x unless it is refused, and a buffer that held `old` then holds `new` unless it is
 abbrev pub answered : {X F : Type 0} → X → Option F → Result X F
 answered x None = Ok x
 answered x (Some f) = Err f
@@ -57,6 +58,13 @@ answered x (Some f) = Err f
 abbrev pub granted : {X F : Type 0} → Option F → X → X → X
 granted None new old = new
 granted (Some f) new old = old
+
+-- what a transform of the block r answers, and what an image that held `old` then holds
+abbrev pub answerOf : Meaning → List ℤ → ℕ → Result ℕ KernelFault
+answerOf m r k = answered (m .count) (refusal m r k)
+
+abbrev pub imageAfter : Meaning → List ℤ → List ℤ → List ℤ
+imageAfter m r old = granted (refusal m r (length old)) (image (m .tables) r) old
 
 -- k for a short kernel and p for a product
 abbrev pub letterOf : Layer → ℕ
