@@ -9,7 +9,7 @@ use native.Mathlib.Omega.{arith}
 use lib.IntN.{ℤ, pos, negℤ, natAbs, _+ℤ_, _*ℤ_, *ℤ-zero, +ℤ-idl, +ℤ-idr}
 use borrow.Author.Differences.{ints}
 use Rattle.algebra.specs.Sums.{Σ}
-use Rattle.algebra.proofs.Integers.{dist-l}
+use Rattle.algebra.proofs.Integers.{dist-l, abs-add}
 
 pub Σ-more : (n : ℕ) (f : ℕ → ℤ) → Σ (n + 1) f ≡ Σ n f +ℤ f n
 unfolding Σ
@@ -57,9 +57,6 @@ unfolding Σ
       | yes e ↦ rw (Σ-none n f (λ k q. h k (omega arith) (omega arith)), e, +ℤ-idl)
       | no u ↦ rw (Σ-single n j f (omega arith) (λ k q w. h k (omega arith) w), h n (omega arith) (omega arith), +ℤ-idr)
     ]
-
-abs-add : (a b : ℤ) → natAbs (a +ℤ b) ≤ natAbs a + natAbs b
-abs-add a b = omega (arith, ints)
 
 pub Σ-bound : (n B : ℕ) (f : ℕ → ℤ) → ((k : ℕ) → k < n → natAbs (f k) ≤ B) → natAbs (Σ n f) ≤ n * B
 unfolding Σ

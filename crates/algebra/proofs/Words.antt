@@ -13,7 +13,7 @@ use mir.Syntax.{w64}
 use mir.Val.{SFits, toZ, ofZ}
 use Rattle.std.proofs.shelf.Signed.{ints, toZ-ofZ}
 use Rattle.algebra.specs.Sums.{Σ}
-use Rattle.algebra.proofs.Integers.{abs-mul}
+use Rattle.algebra.proofs.Integers.{abs-add, abs-mul}
 use Rattle.algebra.proofs.Ring.{Exp, var, lit, _⊕_, _⊖_, _⊗_, neg, ev}
 use Rattle.algebra.proofs.Sums.{Σ-more, Σ-bound}
 use Rattle.algebra.proofs.Tests.{both}
@@ -69,9 +69,6 @@ bounded-at (x ∷ ρ) [] h i = absurd h
 bounded-at (x ∷ ρ) (b ∷ β) h zero = h .0
 bounded-at (x ∷ ρ) (b ∷ β) h (suc i) = bounded-at ρ β (h .1) i
 
-abs-add : (x y : ℤ) → natAbs (x +ℤ y) ≤ natAbs x + natAbs y
-abs-add x y = omega (arith, ints)
-
 abs-sub : (x y : ℤ) → natAbs (x -ℤ y) ≤ natAbs x + natAbs y
 abs-sub x y = omega (arith, ints)
 
@@ -107,7 +104,7 @@ module _ (ρ : List ℤ) (β : List ℕ) (h : Bounded ρ β) where
   stored : (e : Exp) → T (roomy β e) → run ρ e ≡ ev ρ e → word (run ρ e) ≡ ev ρ e
   stored e t q = rw q (word-is (ev ρ e) (below e t))
 
-  -- what the machine works out is the whole number, before it is stored and after; it fits, and has its size
+  -- what the machine works out is the whole number, before it is stored and after, and it fits
   pub run-is : (e : Exp) → T (roomy β e) → run ρ e ≡ ev ρ e
   run-is (var i) t = refl
   run-is (lit c) t = refl

@@ -1,7 +1,7 @@
--- A row of a table: its length and its entries. Assumes nothing.
+-- The rows of a table, as they are defined and as the code lists them. Assumes nothing.
 use mathlib.Core.Bool.{Bool, true, false, cond}
-use mathlib.Core.List.{[]}
-use mathlib.Core.Path.{_≡_, refl, sym}
+use mathlib.Core.List.{List, []}
+use mathlib.Core.Path.{_≡_, refl, sym, ap, _∙_}
 use Prim.Native.Nat.{ℕ, zero, suc, _%_, _<_}
 use native.Mathlib.Nat.{mod-lt, mod-mod}
 use native.Mathlib.Omega.{arith}
@@ -12,7 +12,8 @@ use Rattle.std.specs.declared.option.Option.the-variants.{Some, None}
 use Rattle.std.proofs.shelf.Counted.{length-map-counting, getD-map-counting}
 use Rattle.std.proofs.shelf.Tests.{ne-eqb}
 use Rattle.std.proofs.shelf.Ways.{tells}
-use Rattle.tables.specs.Entries.{isShort, rowOf, rowIn, entryOf, C, S}
+use Rattle.tables.specs.Entries.{isShort, rowOf, C, S}
+use Rattle.tables.specs.Inner.{rowIn, entryOf}
 use Rattle.tables.specs.declared.rows.Rows.{Rows}
 use Rattle.tables.specs.declared.scale.Scale.{Scale}
 use Rattle.tables.proofs.Lengths.{bounds}
@@ -41,11 +42,11 @@ module _ (table : ℕ → ℕ → ℤ) (N : ℕ) where
           rw (some, l, at, period m)
       go false e = rw (row-none e)
 
--- the rows of a table
+-- the rows of a table, as the code lists them
 abbrev pub rowsOf : (ℕ → ℕ → ℤ) → Rows
 rowsOf t = record { three = rowOf t 3; four = rowOf t 4; five = rowOf t 5; six = rowOf t 6; seven = rowOf t 7; eight = rowOf t 8; nine = rowOf t 9 }
 
-pub row-in : (t : ℕ → ℕ → ℤ) (N : ℕ) → rowIn (rowsOf t) N ≡ rowOf t N
+row-in : (t : ℕ → ℕ → ℤ) (N : ℕ) → rowIn (rowsOf t) N ≡ rowOf t N
 unfolding rowOf
 row-in t zero = refl
 row-in t (suc zero) = refl
@@ -58,6 +59,10 @@ row-in t (suc (suc (suc (suc (suc (suc (suc zero))))))) = refl
 row-in t (suc (suc (suc (suc (suc (suc (suc (suc zero)))))))) = refl
 row-in t (suc (suc (suc (suc (suc (suc (suc (suc (suc zero))))))))) = refl
 row-in t (suc (suc (suc (suc (suc (suc (suc (suc (suc (suc n)))))))))) = sym (row-none t (suc (suc (suc (suc (suc (suc (suc (suc (suc (suc n)))))))))) (grind (arith, tells)))
+
+-- what `row` answers over the rows of the table at scale u, where the scale is u
+pub row-of : (t : Scale → ℕ → ℕ → ℤ) (s u : Scale) (N : ℕ) (row : List ℤ) → row ≡ rowIn (rowsOf (t u)) N → s ≡ u → row ≡ rowOf (t s) N
+row-of t s u N row e is = e ∙ row-in (t u) N ∙ ap (λ v. rowOf (t v) N) (sym is)
 
 pub C-period : (s : Scale) (N m : ℕ) → C s N (m % N) ≡ C s N m
 unfolding C

@@ -3,24 +3,24 @@
 use mathlib.Core.Bool.{Bool, cond, _&&_}
 use mathlib.Core.List.{List, [], _∷_, map}
 use Prim.Native.Nat.{ℕ, _-_, _*_, _%_, _^_, min}
-use lib.Dec.{leb, eqb}
+use lib.Dec.{leb}
 use lib.IntN.{ℤ, pos, negℤ}
-use lib.ListN.{length, getD}
+use lib.ListN.{getD}
 use Rattle.std.specs.Iters.{counting}
-use Rattle.std.specs.declared.option.Option.{Option}
-use Rattle.std.specs.declared.option.Option.the-variants.{Some, None}
 use Rattle.kernel.specs.Bins.{Tables}
-use Rattle.tables.specs.declared.rows.Rows.{Rows}
 use Rattle.tables.specs.declared.scale.Scale.{Scale}
 use Rattle.tables.specs.declared.scale.Scale.the-variants.{Standard, Fine}
 
+-- C(0), which no entry passes in size
 abbrev pub scaleOf : Scale → ℕ
 scaleOf Standard = 16384
 scaleOf Fine = 2 ^ 30
 
+-- the lengths that have tables
 abbrev pub isShort : ℕ → Bool
 isShort N = leb 3 N && leb N 9
 
+-- -n
 abbrev pub neg : ℕ → ℤ
 neg n = negℤ (pos n)
 
@@ -81,17 +81,10 @@ C s N m = evenly N (getD (halfCosines s) N []) (m % N)
 unfoldable pub S : Scale → ℕ → ℕ → ℤ
 S s N m = oddly N (getD (halfSines s) N []) (m % N)
 
+-- both tables of a length
 abbrev pub tablesOf : Scale → ℕ → Tables
 tablesOf s N = record { N = N; C = C s N; S = S s N }
 
 -- the first N entries of a table, or none where no short table has the length
 unfoldable pub rowOf : (ℕ → ℕ → ℤ) → ℕ → List ℤ
 rowOf table N = cond (isShort N) (map (table N) (counting 0 N)) []
-
--- the row of length N among the rows of lengths 3 to 9
-abbrev pub rowIn : Rows → ℕ → List ℤ
-rowIn rows N = getD ([] ∷ [] ∷ [] ∷ rows .three ∷ rows .four ∷ rows .five ∷ rows .six ∷ rows .seven ∷ rows .eight ∷ rows .nine ∷ []) N []
-
--- entry m of a row, round its end
-abbrev pub entryOf : List ℤ → ℕ → Option ℤ
-entryOf row m = cond (eqb (length row) 0) None (Some (getD row (m % length row) (pos 0)))

@@ -1,3 +1,4 @@
 pub mod Entries
-pub mod Rule
+pub mod Inner
 pub mod Laws
+pub mod Rule

@@ -1,7 +1,8 @@
 ghost use mathlib.Core.Bool.{cond, true};
 ghost use mathlib.Core.Path.{_≡_};
 ghost use Rattle.std.specs.declared.option.Option.the-variants.{Some, None};
-ghost use Rattle.tables.specs.Entries.{scaleOf, isShort, rowOf, rowIn, entryOf, C, S};
+ghost use Rattle.tables.specs.Entries.{scaleOf, isShort, rowOf, C, S};
+ghost use Rattle.tables.specs.Inner.{rowIn, entryOf};
 ghost use Rattle.tables.specs.Laws.{ShortLaws};
 ghost use Rattle.tables.specs.Rule.{RightCosines, RightSines};
 use crate::rows::Rows;
@@ -119,7 +120,7 @@ const FINE_SINES: Rows = Rows {
 };
 
 impl Scale {
-    // The size of the largest entries.
+    // C(0), which no entry passes in size.
     pub fn value(self) -> u64
         ensures { λ r. ⌜ r ≡ scaleOf self ⌝ }
     {

@@ -1,5 +1,6 @@
 use mathlib.Core.Path.{ap, _∙_}
-use Rattle.tables.specs.Entries.{C, entryOf}
+use Rattle.tables.specs.Entries.{C}
+use Rattle.tables.specs.Inner.{entryOf}
 use Rattle.tables.proofs.Listed.{row-entry, C-period}
 use Rattle.tables.proofs.entry.cosine.Needs as need
 

@@ -1,5 +1,6 @@
 use mathlib.Core.Path.{ap, _∙_}
-use Rattle.tables.specs.Entries.{S, entryOf}
+use Rattle.tables.specs.Entries.{S}
+use Rattle.tables.specs.Inner.{entryOf}
 use Rattle.tables.proofs.Listed.{row-entry, S-period}
 use Rattle.tables.proofs.entry.sine.Needs as need
 
