@@ -5,7 +5,6 @@ use mathlib.Core.Path.{_≡_, sym, ap, _∙_}
 use Prim.Native.Nat.{ℕ, _+_, _*_, _/_, _%_, _^_, _<_, _≤_}
 use native.Mathlib.Nat.{mod-lt, mul-le-mul}
 use native.Mathlib.Omega.{arith}
-use lib.Dec.{lit<, lit≤}
 use lib.IntN.{ℤ, pos, natAbs, negℤ, _+ℤ_, _-ℤ_, _*ℤ_}
 use lib.ListN.{length, getD}
 use mir.Syntax.{w64}
@@ -18,13 +17,11 @@ use Rattle.algebra.proofs.Sums.{Σ-cong, Σ-bound}
 use Rattle.algebra.proofs.Words.{word, word-is, word-fits, run-fits, stored-is, add-term}
 use Rattle.kernel.specs.Bins.{reading, bin}
 use Rattle.tables.specs.declared.scale.Scale.{Scale}
-use Rattle.tables.specs.declared.scale.Scale.the-variants.{Standard}
 use Rattle.tables.specs.Entries.{scaleOf, isShort, rowOf, tablesOf, C, S}
 use Rattle.tables.proofs.Laws.{short-laws}
 use Rattle.tables.proofs.Lengths.{bounds}
 use Rattle.tables.proofs.Listed.{row-length, row-at}
-use Rattle.short.specs.Room.{Small, Matched}
-use Rattle.short.specs.Short.{shortLimit}
+use Rattle.short.specs.Room.{Small, Matched, Ready}
 
 -- reading k times the entry that bin n gives it
 abbrev pub term : List ℤ → List ℤ → ℕ → ℕ → ℤ
@@ -55,7 +52,7 @@ module _ (L g : ℕ) (r row : List ℤ) (n : ℕ) (m : Matched L g r row) where
   added k at count s p l e es ep =
       add-term (length r) (2 ^ 54) (term r row n) (omega (arith, m .few)) term-small k s (p .1) l es (ap (λ q. q .1) ep ∙ made k at l e .1)
 
-  pub whole-small : natAbs (Σ (length r) (term r row n)) ≤ 2 ^ 60
+  whole-small : natAbs (Σ (length r) (term r row n)) ≤ 2 ^ 60
   whole-small = omega (arith, m .few, Σ-bound (length r) (2 ^ 54) (term r row n) term-small)
 
 -- the sum over a table's row is the sum over the table
@@ -68,46 +65,48 @@ over-row table r n e =
     rw (row-length table N e) (ap (λ x. reading r k *ℤ x) (row-at table N e (n * k % N) (mod-lt (n * k) {m = N} (omega arith)))))
 
 -- what `weigh` answers over the row of cosines, and over the row of sines, whose sum is negated in a word
-module _ (s : Scale) (L g : ℕ) (r : List ℤ) (n : ℕ) (e : isShort (length r) ≡ true) (row : List ℤ) (m : Matched L g r row) (made : ℕ) (p : ℕ × ℤ) (is : p ≡ (made, Σ (length r) (term r row n))) where
-  pub cosine-bin : row ≡ rowOf (C s) (length r) → n ≤ length r / 2 → p ≡ (made, bin (tablesOf s (length r)) (reading r) n)
+module _ (s : Scale) (L : ℕ) (r cosines sines : List ℤ) (n : ℕ) (ready : Ready s L r cosines sines) (made : ℕ) (p : ℕ × ℤ) where
+  pub cosine-bin : p ≡ (made, Σ (length r) (term r cosines n)) → n ≤ length r / 2 → p ≡ (made, bin (tablesOf s (length r)) (reading r) n)
   unfolding bin
-  cosine-bin e-row h =
-      let sum : Σ (length r) (term r row n) ≡ Σ (length r) (λ k. reading r k *ℤ C s (length r) (n * k % length r)) =
-      rw e-row (over-row (C s) r n e) in
+  cosine-bin is h =
+      let sum : Σ (length r) (term r cosines n) ≡ Σ (length r) (λ k. reading r k *ℤ C s (length r) (n * k % length r)) =
+      rw (ready .cosines-are) (over-row (C s) r n (ready .short)) in
       rw (le-leb n (length r / 2) h) (is ∙ ap (λ x. (made, x)) sum)
 
-  pub sine-bin : row ≡ rowOf (S s) (length r) → length r / 2 < n
+  pub sine-bin : p ≡ (made, Σ (length r) (term r sines n)) → length r / 2 < n
       → SFits w64 (pos 0 -ℤ word (p .1)) × (_≡_ {A = ℕ × ℤ} (p .0, word (pos 0 -ℤ word (p .1))) (made, bin (tablesOf s (length r)) (reading r) n))
   unfolding bin
-  sine-bin e-row h =
+  sine-bin is h =
       let first : p .0 ≡ made = ap (λ q. q .0) is in
-      let second : p .1 ≡ Σ (length r) (term r row n) = ap (λ q. q .1) is in
-      let small : natAbs (p .1) ≤ 2 ^ 60 = rw second (whole-small L g r row n m) in
-      let sum : Σ (length r) (term r row n) ≡ Σ (length r) (λ k. reading r k *ℤ S s (length r) (n * k % length r)) =
-      rw e-row (over-row (S s) r n e) in
+      let second : p .1 ≡ Σ (length r) (term r sines n) = ap (λ q. q .1) is in
+      let small : natAbs (p .1) ≤ 2 ^ 60 = rw second (whole-small L (scaleOf s) r sines n (ready .sines-matched)) in
+      let sum : Σ (length r) (term r sines n) ≡ Σ (length r) (λ k. reading r k *ℤ S s (length r) (n * k % length r)) =
+      rw (ready .sines-are) (over-row (S s) r n (ready .short)) in
       let ρ = p .1 ∷ [] in
       let β = 2 ^ 60 ∷ [] in
       let negated = stored-is ρ β (small, tt) (neg (var 0)) tt ∙ ap negℤ (second ∙ sum) in
       (run-fits ρ β (small, tt) (neg (var 0)) tt, rw (lt-leb n (length r / 2) h) (cc))
 
--- a block of a short length and the row of a table of that length
-row-matched : (L g : ℕ) (table : ℕ → ℕ → ℤ) (r : List ℤ) → isShort (length r) ≡ true → L < 2 ^ 63 → g < 2 ^ 63 → L * g ≤ 2 ^ 54
-    → Small L r → ((m : ℕ) → natAbs (table (length r) m) ≤ g) → Matched L g r (rowOf table (length r))
-row-matched L g table r e L-room g-room room readings size =
-    let l = row-length table (length r) e in
-    record {
-      lengths = sym l;
-      few = bounds (length r) e .1;
-      L-room = L-room;
-      g-room = g-room;
-      room = room;
-      readings = readings;
-      entries = λ k h. rw (row-at table (length r) e k (omega arith)) (size k);
-    }
+-- a scale and a limit whose products leave room
+module _ (s : Scale) (L : ℕ) (L-room : L < 2 ^ 63) (g-room : scaleOf s < 2 ^ 63) (room : L * scaleOf s ≤ 2 ^ 54) (r : List ℤ) (short : isShort (length r) ≡ true) (readings : Small L r) where
+  row-matched : (table : ℕ → ℕ → ℤ) → ((m : ℕ) → natAbs (table (length r) m) ≤ scaleOf s) → Matched L (scaleOf s) r (rowOf table (length r))
+  row-matched table small =
+      let l = row-length table (length r) short in
+      record {
+        lengths = sym l;
+        few = bounds (length r) short .1;
+        L-room = L-room;
+        g-room = g-room;
+        room = room;
+        readings = readings;
+        entries = λ k h. rw (row-at table (length r) short k (omega arith)) (small k);
+      }
 
-module _ (r : List ℤ) (e : isShort (length r) ≡ true) (readings : Small shortLimit r) where
-  pub cosines-matched : Matched shortLimit (scaleOf Standard) r (rowOf (C Standard) (length r))
-  cosines-matched = row-matched shortLimit (scaleOf Standard) (C Standard) r e (lit< tt) (lit< tt) (lit≤ tt) readings (short-laws (length r) e .C-size Standard)
-
-  pub sines-matched : Matched shortLimit (scaleOf Standard) r (rowOf (S Standard) (length r))
-  sines-matched = row-matched shortLimit (scaleOf Standard) (S Standard) r e (lit< tt) (lit< tt) (lit≤ tt) readings (short-laws (length r) e .S-size Standard)
+  pub ready-by : (cosines sines : List ℤ) → cosines ≡ rowOf (C s) (length r) → sines ≡ rowOf (S s) (length r) → Ready s L r cosines sines
+  ready-by cosines sines c-are s-are = record {
+    short = short;
+    cosines-are = c-are;
+    sines-are = s-are;
+    cosines-matched = rw c-are (row-matched (C s) (short-laws (length r) short .C-size s));
+    sines-matched = rw s-are (row-matched (S s) (short-laws (length r) short .S-size s));
+  }

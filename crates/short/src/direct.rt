@@ -5,10 +5,10 @@ ghost use lib.IntN.{pos, _*ℤ_};
 ghost use lib.ListN.{length as size, getD};
 ghost use Rattle.algebra.specs.Sums.{Σ};
 ghost use Rattle.kernel.specs.Bins.{reading, bin, image as imageOf};
-ghost use Rattle.short.specs.Room.{Small, Matched};
+ghost use Rattle.short.specs.Room.{Small, Matched, Ready};
 ghost use Rattle.short.specs.Short.{direct, shortLimit};
 ghost use Rattle.tables.specs.declared.scale.Scale.the-variants.{Standard};
-ghost use Rattle.tables.specs.Entries.{scaleOf, isShort, tablesOf, rowOf, C, S};
+ghost use Rattle.tables.specs.Entries.{scaleOf, isShort, tablesOf};
 use crate::figures::fit;
 use crate::figures::unfit;
 use crate::product::product;
@@ -28,6 +28,7 @@ pub struct Direct {
 }
 
 impl Direct {
+    // The direct kernel of a length: any may be given, and 3 to 9 are fit.
     pub fn new(length: usize) -> Direct
         ensures { λ r. ⌜ r .length ≡ length ⌝ }
     {
@@ -59,9 +60,7 @@ fn weigh(block: &[i64], row: &[i64], n: usize, count: usize) -> (usize, i64)
 
 // Bin n of the block, from the rows of its length, and the count of products.
 fn one_bin(block: &[i64], cosines: &[i64], sines: &[i64], n: usize, count: usize) -> (usize, i64)
-    requires short { ⌜ isShort (size (now block)) ≡ true ⌝ }
-    requires rows { ⌜ now cosines ≡ rowOf (C Standard) (size (now block)) ⌝ ∗ ⌜ now sines ≡ rowOf (S Standard) (size (now block)) ⌝ }
-    requires matched { ⌜ Matched shortLimit (scaleOf Standard) (now block) (now cosines) ⌝ ∗ ⌜ Matched shortLimit (scaleOf Standard) (now block) (now sines) ⌝ }
+    requires ready { ⌜ Ready Standard shortLimit (now block) (now cosines) (now sines) ⌝ }
     requires at { ⌜ n < size (now block) ⌝ }
     requires few { ⌜ count ≤ 81 ⌝ }
     ensures { λ r. ⌜ r ≡ (count + size (now (block .entry)), bin (tablesOf Standard (size (now (block .entry)))) (reading (now (block .entry))) n) ⌝ }

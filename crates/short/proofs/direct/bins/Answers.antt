@@ -5,6 +5,7 @@ use mathlib.Core.Path.{_≡_, ap, _∙_}
 use Prim.Native.Nat.{_*_, _<_}
 use native.Mathlib.Nat.{mul-le-mul, add-mul}
 use native.Mathlib.Omega.{arith}
+use lib.Dec.{lit<, lit≤}
 use lib.ListN.{length}
 use lib.Seq.{getD-set-same, getD-set-other}
 use mir.Syntax.{w64}
@@ -14,19 +15,17 @@ use Rattle.kernel.proofs.Image.{image-is}
 use Rattle.tables.specs.declared.scale.Scale.the-variants.{Standard}
 use Rattle.tables.specs.Entries.{tablesOf}
 use Rattle.tables.proofs.Lengths.{bounds}
-use Rattle.short.proofs.Weigh.{cosines-matched, sines-matched}
+use Rattle.short.specs.Short.{shortLimit}
+use Rattle.short.proofs.Weigh.{ready-by}
 use Rattle.short.proofs.direct.bins.Needs as need
 
 pub one-bin-made-requires : need.one-bin-made-requires
 one-bin-made-requires c κs =
     let r = c .args .block .now in
-    let cosines = c .cosines-cosines .ensures .row in
-    let sines = c .sines-sines .ensures .row in
-    let few = mul-le-mul {n₁ = c .loop-n .n} {m₁ = length r} {n₂ = 9} {m₂ = 9} (omega (arith, bounds (length r) (c .pre .short) .1)) (bounds (length r) (c .pre .short) .1) in
+    let most = bounds (length r) (c .pre .short) .1 in
+    let few = mul-le-mul {n₁ = c .loop-n .n} {m₁ = length r} {n₂ = 9} {m₂ = 9} (omega arith) most in
     record {
-      short = c .pre .short;
-      rows = (cosines, sines);
-      matched = (rw cosines (cosines-matched r (c .pre .short) (c .pre .readings)), rw sines (sines-matched r (c .pre .short) (c .pre .readings)));
+      ready = ready-by Standard shortLimit (lit< tt) (lit< tt) (lit≤ tt) r (c .pre .short) (c .pre .readings) _ _ (c .cosines-cosines .ensures .row) (c .sines-sines .ensures .row);
       at = c .loop-n-test .taken;
       few = omega arith;
     }
