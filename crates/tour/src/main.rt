@@ -1,3 +1,7 @@
+ghost use mathlib.Core.Path.{_≡_};
+ghost use Rattle.std.specs.Vec.{made};
+ghost use Rattle.kernel.specs.Refusal.{imageAfter};
+ghost use Rattle.short.specs.Short.{direct};
 use kernel::Kernel;
 use kernel::KernelFault;
 use short::Direct;
@@ -13,17 +17,22 @@ fn show_fault(rt: &LibcRuntime, word: &str, fault: KernelFault) -> io::Result<()
     println!(rt, "  {word}number {number}, place {place}, layer {letter}")
 }
 
-// Transforms a block by the kernel and prints what came of it.
-fn show(rt: &LibcRuntime, kernel: &Direct, block: &[i64], image: &mut [i64]) -> io::Result<()> {
+// Transforms a block by the kernel and prints what came of it. The image is then the block's, also where printing fails.
+fn show(rt: &LibcRuntime, kernel: &Direct, block: &[i64], image: &mut [i64]) -> io::Result<()>
+    ensures { λ _. ⌜ now (image .exit) ≡ imageAfter (direct (now (kernel .entry) .length)) (now (block .entry)) (now (image .entry)) ⌝ }
+{
+    let answer = kernel.transform(block, image);
     println!(rt, "  block     {block:?}")?;
-    match kernel.transform(block, image) {
+    match answer {
         Ok(count) => println!(rt, "  bins      {image:?} by {count} products"),
         Err(fault) => show_fault(rt, "refused   ", fault),
     }
 }
 
 // Makes the direct kernel of a length, and prints what it tells.
-fn make(rt: &LibcRuntime, length: usize) -> io::Result<Direct> {
+fn make(rt: &LibcRuntime, length: usize) -> io::Result<Direct>
+    ensures { λ r. ⌜ made r (λ k. k .length ≡ length) ⌝ }
+{
     let kernel = Direct::new(length);
     let told = kernel.tell();
     println!(rt, "direct kernel of length {length}")?;
