@@ -1,1 +1,2 @@
 // Mathematics only: finite sums, the ring normaliser, congruence and machine words stand in specs/ and proofs/.
+#![tactic(auto)]

@@ -1,3 +1,5 @@
+#![tactic(auto)]
+
 ghost use Rattle.std.specs.Prelude.{◌≡◌, length as size, Decides};
 ghost use Rattle.kernel.specs.Refusal.{answer_of, image_after};
 ghost use Rattle.short.specs.Short.{direct, fast};

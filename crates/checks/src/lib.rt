@@ -1,4 +1,6 @@
 // Tests over the public calls of the other crates.
+#![tactic(auto)]
+
 #[cfg(test)]
 mod direct;
 #[cfg(test)]

@@ -1,4 +1,6 @@
 // What a kernel means: its tables and bins, the laws that it keeps, and why it refuses.
+#![tactic(auto)]
+
 pub mod admit;
 pub mod code;
 pub mod fault;

@@ -1,4 +1,6 @@
 // Kernels of lengths 3 to 9 over the standard tables.
+#![tactic(auto)]
+
 mod algorithm;
 pub mod direct;
 pub mod fast;

@@ -1,3 +1,5 @@
+#![tactic(auto)]
+
 use kernel::Kernel;
 use short::{Direct, Fast};
 use std::env;

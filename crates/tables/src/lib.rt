@@ -1,4 +1,6 @@
 // Cosines and sines of lengths 3 to 9 in whole numbers, at two scales.
+#![tactic(auto)]
+
 pub mod entry;
 mod rows;
 pub mod scale;

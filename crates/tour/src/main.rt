@@ -1,3 +1,5 @@
+#![tactic(auto)]
+
 ghost use Rattle.std.specs.Prelude.{◌≡◌, IfOk};
 ghost use Rattle.kernel.specs.Refusal.{image_after};
 ghost use Rattle.short.specs.Short.{direct};
