@@ -40,7 +40,7 @@ GIVEN = {
 # Spelled by the rule: a capital inside a word, or a dash, becomes an underscore.
 PLAIN = """
 *ℤ-assoc *ℤ-left-comm C-is C-mirrors C-period C-size C-small L-room N-least N-most S-is S-mirrors S-period S-size S-small a-is
-addP addP-is addT addT-is all-roomy at-is b-is bin-factor bin-is bins-are bins-from by-eq c-are c-is cosine-at cosine-bin cosine-is
+addP addP-is addT addT-is all-roomy b-is bin-factor bin-is bins-are bins-from by-eq c-are c-is cosine-at cosine-bin cosine-is
 cosine-place cosine-times cosineMultiples cosineOf cosineRules cosines-agree cosines-are cosines-fall cosines-keep cosines-matched
 dist-l dist-r dualCosines dualSines entries-small entriesOf eqZ eqZ-is everywhere-at fast-is fastCount few-products first-at
 firstAbove fitShort fits-with g-room gain-least gain-most halfCosines halfSines image-at image-is imageAfter insert-is isShort

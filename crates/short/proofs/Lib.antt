@@ -1,5 +1,8 @@
+pub mod Weigh
+pub mod Laws
 pub mod Symbols
 pub mod Related
 pub mod Lines
 pub mod Turns
+pub mod Choice
 pub mod Alike

@@ -1,21 +1,13 @@
--- A short kernel keeps the laws, and what it admits. Assumes nothing.
-use Rattle.std.specs.Prelude.{◌≡◌, ℕ, ◌*◌, ◌≤◌, Bool, true, false, cond, List, length, ℤ, Ok, refl}
-use Rattle.std.proofs.Common.{subst, arith, lit≤}
-use Rattle.algebra.specs.Units.{Units}
-use Rattle.kernel.specs.declared.fault.Layer.{Layer}
-use Rattle.kernel.specs.declared.told.Told.{Told}
-use Rattle.kernel.specs.Meaning.{Fit, Idle, Lawful, told}
-use Rattle.kernel.specs.Refusal.{refused, answered}
-use Rattle.kernel.proofs.Admitted.{Admitted, admitted, not_refused, some_none}
+-- A short kernel keeps the laws of a kernel. Assumes nothing.
+use Rattle.std.specs.Prelude.{◌≡◌, ℕ, ◌*◌, ◌≤◌, Bool, true, false, cond, T, nat_le, refl}
+use Rattle.std.proofs.Common.{arith, leb→le}
+use Rattle.algebra.proofs.Tests.{below}
+use Rattle.kernel.specs.Meaning.{Fit, Idle, Lawful}
 use Rattle.tables.specs.declared.scale.Scale.TheVariants.{Standard}
-use Rattle.tables.specs.Entries.{scale_of, is_short}
+use Rattle.tables.specs.Entries.{is_short}
 use Rattle.tables.proofs.Laws.{short_laws}
-use Rattle.tables.proofs.Lengths.{bounds}
-use Rattle.short.specs.Room.{Small}
-use Rattle.short.specs.Short.{short_limit, fit_short, unfit_short, short}
-
-pub standard_units : Units (scale_of Standard) short_limit
-standard_units = record { entry = lit≤ tt; reading = lit≤ tt; both = lit≤ tt }
+use Rattle.tables.proofs.Lengths.{bounds, everywhere, everywhere_at}
+use Rattle.short.specs.Short.{fit_short, unfit_short, short, direct, fast, fast_count}
 
 fit : (N count : ℕ) → is_short N ≡ true → count ≤ N * N → Fit (fit_short N count)
 fit N count e few =
@@ -39,23 +31,23 @@ fit N count e few =
 idle : (N : ℕ) → Idle (unfit_short N)
 idle N = record { no_length = refl; no_gain = refl; no_limit = refl; no_scale = refl; no_count = refl }
 
-pub short_lawful : (N count : ℕ) → (is_short N ≡ true → count ≤ N * N) → Lawful (short N count)
+short_lawful : (N count : ℕ) → (is_short N ≡ true → count ≤ N * N) → Lawful (short N count)
 short_lawful N count few = go (is_short N) refl
   where
     go : (b : Bool) → is_short N ≡ b → Lawful (cond b (fit_short N count) (unfit_short N))
     go true e = fit N count e (few e)
     go false e = idle N
 
--- what a short kernel admits
-pub record Taken (N : ℕ) (r : List ℤ) (k : ℕ) : Type 0 where
-  pub short : is_short N ≡ true
-  pub block : length r ≡ N
-  pub image : k ≡ N
-  pub readings : Small short_limit r
+pub direct_lawful : (N : ℕ) → Lawful (direct N)
+direct_lawful N = short_lawful N (N * N) (λ _. omega arith)
 
-pub taken : (N count : ℕ) (t : Told) (layer : Layer) (r : List ℤ) (k : ℕ) (y : Unit {0}) → t ≡ told (short N count) → Ok y ≡ answered tt (refused t layer r k) → Taken N r k
-taken N count t layer r k y is e = go (is_short N) refl (subst (λ t. Admitted t r k) is (admitted t layer r k (not_refused tt y (refused t layer r k) e)))
-  where
-    go : (b : Bool) → is_short N ≡ b → Admitted (told (cond b (fit_short N count) (unfit_short N))) r k → Taken N r k
-    go true s a = record { short = s; block = a.block; image = a.image; readings = a.readings }
-    go false s a = absurd (some_none a.fit)
+-- the fast kernel makes no more products than the direct one
+counts : T (everywhere (λ N. nat_le (fast_count N) (N * N)))
+unfolding everywhere below
+counts = tt
+
+few_products : (N : ℕ) → is_short N ≡ true → fast_count N ≤ N * N
+few_products N e = leb→le (fast_count N) (N * N) (everywhere_at _ counts N e)
+
+pub fast_lawful : (N : ℕ) → Lawful (fast N)
+fast_lawful N = short_lawful N (fast_count N) (few_products N)

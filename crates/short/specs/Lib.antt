@@ -2,5 +2,3 @@ pub mod Algorithms
 pub mod Room
 pub mod Short
 pub mod Laws
-pub mod Choice
-pub mod Weigh

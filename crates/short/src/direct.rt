@@ -5,8 +5,7 @@ ghost use Rattle.short.specs.Room.{Small, Matched, Ready};
 ghost use Rattle.short.specs.Short.{direct, short_limit};
 ghost use Rattle.tables.specs.declared.scale.Scale.TheVariants.{Standard};
 ghost use Rattle.tables.specs.Entries.{scale_of, is_short, tables_of};
-ghost use Rattle.std.proofs.Common.{arith};
-ghost use Rattle.short.specs.Laws.{short_lawful};
+ghost use Rattle.short.specs.Laws.{direct_lawful};
 
 use crate::figures::{fit, unfit};
 use crate::product::product;
@@ -87,7 +86,7 @@ fn bins(block: &[i64], image: &mut [i64]) -> usize
 impl Kernel for Direct {
     ghost meaning = { λ k. direct k.length };
 
-    ghost lawful = { λ k. short_lawful k.length (k.length * k.length) (λ _. omega arith) };
+    ghost lawful = { λ k. direct_lawful k.length };
 
     fn tell(&self) -> Told {
         if is_short(self.length) {

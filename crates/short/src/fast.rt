@@ -5,8 +5,7 @@ ghost use Rattle.short.specs.Room.{Small};
 ghost use Rattle.short.specs.Short.{short_limit, direct, fast, fast_count};
 ghost use Rattle.tables.specs.declared.scale.Scale.TheVariants.{Standard};
 ghost use Rattle.tables.specs.Entries.{tables_of};
-ghost use Rattle.short.specs.Choice.{few_products};
-ghost use Rattle.short.specs.Laws.{short_lawful};
+ghost use Rattle.short.specs.Laws.{fast_lawful};
 
 use crate::algorithm::Algorithm;
 use crate::figures::{fit, unfit};
@@ -87,7 +86,7 @@ impl Algorithm {
 impl Kernel for Fast {
     ghost meaning = { λ k. fast k.length };
 
-    ghost lawful = { λ k. short_lawful k.length (fast_count k.length) (few_products k.length) };
+    ghost lawful = { λ k. fast_lawful k.length };
 
     fn tell(&self) -> Told {
         match Algorithm::of(self.length) {

@@ -2,7 +2,7 @@ use Rattle.std.proofs.Common.{◌≡◌, ◌+◌, ◌*◌, ◌%◌, length, refl
 use native.Mathlib.Nat.{zero-mod}
 use Rattle.algebra.specs.Sums.{Σ}
 use Rattle.algebra.proofs.Congruence.{remainder_step}
-use Rattle.short.specs.Weigh.{term, made, added}
+use Rattle.short.proofs.Weigh.{term, made, added}
 use Rattle.short.proofs.direct.weigh.Goals as goal
 use Rattle.short.proofs.direct.weigh.Goals.{then-at-row, else-at-row}
 
@@ -16,8 +16,8 @@ product-next-requires c =
     let fits = (made _ _ c.args.block.now c.args.row.now c.args.n c.requires.rows l.value-index l.at c.loop-value-test.true l.invariant.2).0 in
     record { few = omega (arith, c.requires.rows.few); room = fits }
 
-pub overflow-add-sum : goal.overflow-add-sum
-overflow-add-sum c =
+pub overflow_add-sum : goal.overflow_add-sum
+overflow_add-sum c =
     let l = c.loop-value in
     (added _ _ c.args.block.now c.args.row.now c.args.n c.requires.rows l.value-index l.at _ _ c.product-next.result c.loop-value-test.true l.invariant.2 l.invariant.1 c.product-next.ensures).0
 
@@ -31,8 +31,8 @@ loop-value-preserved c =
     let step = remainder_step (length row) n k l.at c.if-at-row.at c.requires.step l.invariant.2 in
     let next : c.if-at-row.at ≡ n * (k + 1) % length row =
     elim c.if-at-row.branch [
-      | then-at-row w ↦ step (λ h. absurd (omega (arith, w.if-at-row.true))) (λ _. w.at_is)
-      | else-at-row w ↦ step (λ _. w.at_is) (λ h. absurd (omega (arith, w.if-at-row.false)))
+      | then-at-row w ↦ step (λ h. absurd (omega (arith, w.if-at-row.true))) (λ _. w.at-is)
+      | else-at-row w ↦ step (λ _. w.at-is) (λ h. absurd (omega (arith, w.if-at-row.false)))
     ] in
     (ap (λ p. p.0) c.product-next.ensures ∙ omega arith, sum, next, rw next (mod-lt (n * (k + 1)) (omega arith)))
 

@@ -1,6 +1,6 @@
 use Rattle.std.proofs.Common.{◌≡◌, ◌+◌, ◌*◌, ◌%◌, ◌<◌, length}
 use Rattle.algebra.specs.Sums.{Σ}
-use Rattle.short.specs.Weigh.{term}
+use Rattle.short.proofs.Weigh.{term}
 use Rattle.short.proofs.direct.weigh.Given as goal
 
 abbrev pub invariant-loop-value : goal.invariant-loop-value

@@ -40,100 +40,100 @@ cross = cos 1 ⊗ (t1 ⊖ t3)
 abbrev turn : Exp
 turn = sin 1 ⊗ (d1 ⊕ d3)
 
-pub overflow-add-even : goal.overflow-add-even
-overflow-add-even c = fits c.requires.supplied even tt
+pub overflow_add-even : goal.overflow_add-even
+overflow_add-even c = fits c.requires.supplied even tt
 
-pub overflow-sub-gap : goal.overflow-sub-gap
-overflow-sub-gap c = fits c.requires.supplied gap tt
+pub overflow_sub-gap : goal.overflow_sub-gap
+overflow_sub-gap c = fits c.requires.supplied gap tt
 
-pub overflow-add-t1 : goal.overflow-add-t1
-overflow-add-t1 c = fits c.requires.supplied t1 tt
+pub overflow_add-t1 : goal.overflow_add-t1
+overflow_add-t1 c = fits c.requires.supplied t1 tt
 
-pub overflow-sub-d1 : goal.overflow-sub-d1
-overflow-sub-d1 c = fits c.requires.supplied d1 tt
+pub overflow_sub-d1 : goal.overflow_sub-d1
+overflow_sub-d1 c = fits c.requires.supplied d1 tt
 
-pub overflow-add-t2 : goal.overflow-add-t2
-overflow-add-t2 c = fits c.requires.supplied t2 tt
+pub overflow_add-t2 : goal.overflow_add-t2
+overflow_add-t2 c = fits c.requires.supplied t2 tt
 
-pub overflow-sub-d2 : goal.overflow-sub-d2
-overflow-sub-d2 c = fits c.requires.supplied d2 tt
+pub overflow_sub-d2 : goal.overflow_sub-d2
+overflow_sub-d2 c = fits c.requires.supplied d2 tt
 
-pub overflow-add-t3 : goal.overflow-add-t3
-overflow-add-t3 c = fits c.requires.supplied t3 tt
+pub overflow_add-t3 : goal.overflow_add-t3
+overflow_add-t3 c = fits c.requires.supplied t3 tt
 
-pub overflow-sub-d3 : goal.overflow-sub-d3
-overflow-sub-d3 c = fits c.requires.supplied d3 tt
+pub overflow_sub-d3 : goal.overflow_sub-d3
+overflow_sub-d3 c = fits c.requires.supplied d3 tt
 
-pub overflow-mul-base : goal.overflow-mul-base
-overflow-mul-base c = fits c.requires.supplied base tt
+pub overflow_mul-base : goal.overflow_mul-base
+overflow_mul-base c = fits c.requires.supplied base tt
 
-pub overflow-mul-side : goal.overflow-mul-side
-overflow-mul-side c = fits c.requires.supplied side tt
+pub overflow_mul-side : goal.overflow_mul-side
+overflow_mul-side c = fits c.requires.supplied side tt
 
-pub overflow-sub-t1 : goal.overflow-sub-t1
-overflow-sub-t1 c = fits c.requires.supplied (t1 ⊖ t3) tt
+pub overflow_sub-t1 : goal.overflow_sub-t1
+overflow_sub-t1 c = fits c.requires.supplied (t1 ⊖ t3) tt
 
 pub product-made-requires : goal.product-made-requires
 product-made-requires c = record { few = lit< tt; room = fits c.requires.supplied cross tt }
 
-pub overflow-add-d1 : goal.overflow-add-d1
-overflow-add-d1 c = fits c.requires.supplied (d1 ⊕ d3) tt
+pub overflow_add-d1 : goal.overflow_add-d1
+overflow_add-d1 c = fits c.requires.supplied (d1 ⊕ d3) tt
 
 pub product-made-requires-2 : goal.product-made-requires-2
 product-made-requires-2 c = record { few = omega (arith, counted c.product-made.ensures); room = fits c.requires.supplied turn tt }
 
-pub overflow-add-bins : goal.overflow-add-bins
-overflow-add-bins c = fits c.requires.supplied (even ⊕ t2) tt
+pub overflow_add-bins : goal.overflow_add-bins
+overflow_add-bins c = fits c.requires.supplied (even ⊕ t2) tt
 
-pub overflow-add-bins-2 : goal.overflow-add-bins-2
-overflow-add-bins-2 c = fits c.requires.supplied (t1 ⊕ t3) tt
+pub overflow_add-bins-2 : goal.overflow_add-bins-2
+overflow_add-bins-2 c = fits c.requires.supplied (t1 ⊕ t3) tt
 
-pub overflow-add-bins-3 : goal.overflow-add-bins-3
-overflow-add-bins-3 c = fits c.requires.supplied (even ⊕ t2 ⊕ (t1 ⊕ t3)) tt
+pub overflow_add-bins-3 : goal.overflow_add-bins-3
+overflow_add-bins-3 c = fits c.requires.supplied (even ⊕ t2 ⊕ (t1 ⊕ t3)) tt
 
-pub overflow-mul-bins : goal.overflow-mul-bins
-overflow-mul-bins c = fits c.requires.supplied (cos 0 ⊗ (even ⊕ t2 ⊕ (t1 ⊕ t3))) tt
+pub overflow_mul-bins : goal.overflow_mul-bins
+overflow_mul-bins c = fits c.requires.supplied (cos 0 ⊗ (even ⊕ t2 ⊕ (t1 ⊕ t3))) tt
 
-pub overflow-add-bins-4 : goal.overflow-add-bins-4
-overflow-add-bins-4 c = fits_with c.requires.supplied (product_known c.requires.supplied cross tt c.product-made.ensures ∷ []) (base ⊕ result 0) tt
+pub overflow_add-bins-4 : goal.overflow_add-bins-4
+overflow_add-bins-4 c = fits_with c.requires.supplied (product_known c.requires.supplied cross tt c.product-made.ensures ∷ []) (base ⊕ result 0) tt
 
-pub overflow-sub-bins : goal.overflow-sub-bins
-overflow-sub-bins c = fits c.requires.supplied (even ⊖ t2) tt
+pub overflow_sub-bins : goal.overflow_sub-bins
+overflow_sub-bins c = fits c.requires.supplied (even ⊖ t2) tt
 
-pub overflow-mul-bins-2 : goal.overflow-mul-bins-2
-overflow-mul-bins-2 c = fits c.requires.supplied (cos 0 ⊗ (even ⊖ t2)) tt
+pub overflow_mul-bins-2 : goal.overflow_mul-bins-2
+overflow_mul-bins-2 c = fits c.requires.supplied (cos 0 ⊗ (even ⊖ t2)) tt
 
-pub overflow-sub-bins-2 : goal.overflow-sub-bins-2
-overflow-sub-bins-2 c = fits_with c.requires.supplied (product_known c.requires.supplied cross tt c.product-made.ensures ∷ []) (base ⊖ result 0) tt
+pub overflow_sub-bins-2 : goal.overflow_sub-bins-2
+overflow_sub-bins-2 c = fits_with c.requires.supplied (product_known c.requires.supplied cross tt c.product-made.ensures ∷ []) (base ⊖ result 0) tt
 
-pub overflow-add-bins-5 : goal.overflow-add-bins-5
-overflow-add-bins-5 c = fits c.requires.supplied (even ⊕ t2) tt
+pub overflow_add-bins-5 : goal.overflow_add-bins-5
+overflow_add-bins-5 c = fits c.requires.supplied (even ⊕ t2) tt
 
-pub overflow-add-bins-6 : goal.overflow-add-bins-6
-overflow-add-bins-6 c = fits c.requires.supplied (t1 ⊕ t3) tt
+pub overflow_add-bins-6 : goal.overflow_add-bins-6
+overflow_add-bins-6 c = fits c.requires.supplied (t1 ⊕ t3) tt
 
-pub overflow-sub-bins-3 : goal.overflow-sub-bins-3
-overflow-sub-bins-3 c = fits c.requires.supplied (even ⊕ t2 ⊖ (t1 ⊕ t3)) tt
+pub overflow_sub-bins-3 : goal.overflow_sub-bins-3
+overflow_sub-bins-3 c = fits c.requires.supplied (even ⊕ t2 ⊖ (t1 ⊕ t3)) tt
 
-pub overflow-mul-bins-3 : goal.overflow-mul-bins-3
-overflow-mul-bins-3 c = fits c.requires.supplied (cos 0 ⊗ (even ⊕ t2 ⊖ (t1 ⊕ t3))) tt
+pub overflow_mul-bins-3 : goal.overflow_mul-bins-3
+overflow_mul-bins-3 c = fits c.requires.supplied (cos 0 ⊗ (even ⊕ t2 ⊖ (t1 ⊕ t3))) tt
 
-pub overflow-sub-bins-4 : goal.overflow-sub-bins-4
-overflow-sub-bins-4 c = fits_with c.requires.supplied (product_known c.requires.supplied turn tt c.product-made-2.ensures ∷ []) (result 0 ⊖ side) tt
+pub overflow_sub-bins-4 : goal.overflow_sub-bins-4
+overflow_sub-bins-4 c = fits_with c.requires.supplied (product_known c.requires.supplied turn tt c.product-made-2.ensures ∷ []) (result 0 ⊖ side) tt
 
-pub overflow-sub-bins-5 : goal.overflow-sub-bins-5
-overflow-sub-bins-5 c = fits c.requires.supplied (d1 ⊖ d3) tt
+pub overflow_sub-bins-5 : goal.overflow_sub-bins-5
+overflow_sub-bins-5 c = fits c.requires.supplied (d1 ⊖ d3) tt
 
-pub overflow-mul-bins-4 : goal.overflow-mul-bins-4
-overflow-mul-bins-4 c = fits c.requires.supplied (cos 0 ⊗ (d1 ⊖ d3)) tt
+pub overflow_mul-bins-4 : goal.overflow_mul-bins-4
+overflow_mul-bins-4 c = fits c.requires.supplied (cos 0 ⊗ (d1 ⊖ d3)) tt
 
-pub overflow-add-bins-7 : goal.overflow-add-bins-7
-overflow-add-bins-7 c = fits_with c.requires.supplied (product_known c.requires.supplied turn tt c.product-made-2.ensures ∷ []) (result 0 ⊕ side) tt
+pub overflow_add-bins-7 : goal.overflow_add-bins-7
+overflow_add-bins-7 c = fits_with c.requires.supplied (product_known c.requires.supplied turn tt c.product-made-2.ensures ∷ []) (result 0 ⊕ side) tt
 
 pub returns : goal.returns
 returns c = record {
   made = omega (arith, counted c.product-made.ensures, counted c.product-made-2.ensures);
-  writes = c.copy-from-slice.ensures.after
+  writes = c.copy_from_slice.ensures.after
       ∙ written c.requires.supplied
       (product_known c.requires.supplied cross tt c.product-made.ensures
       ∷ product_known c.requires.supplied turn tt c.product-made-2.ensures

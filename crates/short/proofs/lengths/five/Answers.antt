@@ -46,97 +46,97 @@ first = cos 0 ⊗ x 0 ⊕ cos 1 ⊗ t1 ⊕ cos 2 ⊗ t2
 abbrev second : Exp
 second = cos 0 ⊗ x 0 ⊕ cos 2 ⊗ t1 ⊕ cos 1 ⊗ t2
 
-pub overflow-add-t1 : goal.overflow-add-t1
-overflow-add-t1 c = fits c.requires.supplied t1 tt
+pub overflow_add-t1 : goal.overflow_add-t1
+overflow_add-t1 c = fits c.requires.supplied t1 tt
 
-pub overflow-sub-t4 : goal.overflow-sub-t4
-overflow-sub-t4 c = fits c.requires.supplied t4 tt
+pub overflow_sub-t4 : goal.overflow_sub-t4
+overflow_sub-t4 c = fits c.requires.supplied t4 tt
 
-pub overflow-add-t2 : goal.overflow-add-t2
-overflow-add-t2 c = fits c.requires.supplied t2 tt
+pub overflow_add-t2 : goal.overflow_add-t2
+overflow_add-t2 c = fits c.requires.supplied t2 tt
 
-pub overflow-sub-t3 : goal.overflow-sub-t3
-overflow-sub-t3 c = fits c.requires.supplied t3 tt
+pub overflow_sub-t3 : goal.overflow_sub-t3
+overflow_sub-t3 c = fits c.requires.supplied t3 tt
 
-pub overflow-add-sum : goal.overflow-add-sum
-overflow-add-sum c = fits c.requires.supplied sum tt
+pub overflow_add-sum : goal.overflow_add-sum
+overflow_add-sum c = fits c.requires.supplied sum tt
 
-pub overflow-add-all : goal.overflow-add-all
-overflow-add-all c = fits c.requires.supplied (x 0 ⊕ sum) tt
+pub overflow_add-all : goal.overflow_add-all
+overflow_add-all c = fits c.requires.supplied (x 0 ⊕ sum) tt
 
-pub overflow-mul-all : goal.overflow-mul-all
-overflow-mul-all c = fits c.requires.supplied all tt
+pub overflow_mul-all : goal.overflow_mul-all
+overflow_mul-all c = fits c.requires.supplied all tt
 
-pub overflow-mul-double : goal.overflow-mul-double
-overflow-mul-double c = fits c.requires.supplied double tt
+pub overflow_mul-double : goal.overflow_mul-double
+overflow_mul-double c = fits c.requires.supplied double tt
 
-pub overflow-add-cos : goal.overflow-add-cos
-overflow-add-cos c = fits c.requires.supplied (cos 1 ⊕ cos 2) tt
+pub overflow_add-cos : goal.overflow_add-cos
+overflow_add-cos c = fits c.requires.supplied (cos 1 ⊕ cos 2) tt
 
-pub overflow-mul-scale : goal.overflow-mul-scale
-overflow-mul-scale c = fits c.requires.supplied (lit (pos 2) ⊗ cos 0) tt
+pub overflow_mul-scale : goal.overflow_mul-scale
+overflow_mul-scale c = fits c.requires.supplied (lit (pos 2) ⊗ cos 0) tt
 
-pub overflow-sub-cos : goal.overflow-sub-cos
-overflow-sub-cos c = fits c.requires.supplied (cos 1 ⊕ cos 2 ⊖ lit (pos 2) ⊗ cos 0) tt
+pub overflow_sub-cos : goal.overflow_sub-cos
+overflow_sub-cos c = fits c.requires.supplied (cos 1 ⊕ cos 2 ⊖ lit (pos 2) ⊗ cos 0) tt
 
 pub product-made-requires : goal.product-made-requires
 product-made-requires c = record { few = lit< tt; room = fits c.requires.supplied both tt }
 
-pub overflow-sub-cos-2 : goal.overflow-sub-cos-2
-overflow-sub-cos-2 c = fits c.requires.supplied (cos 1 ⊖ cos 2) tt
+pub overflow_sub-cos-2 : goal.overflow_sub-cos-2
+overflow_sub-cos-2 c = fits c.requires.supplied (cos 1 ⊖ cos 2) tt
 
-pub overflow-sub-t1 : goal.overflow-sub-t1
-overflow-sub-t1 c = fits c.requires.supplied (t1 ⊖ t2) tt
+pub overflow_sub-t1 : goal.overflow_sub-t1
+overflow_sub-t1 c = fits c.requires.supplied (t1 ⊖ t2) tt
 
 pub product-made-requires-2 : goal.product-made-requires-2
 product-made-requires-2 c = record { few = omega (arith, counted c.product-made.ensures); room = fits c.requires.supplied apart tt }
 
-pub overflow-add-t3 : goal.overflow-add-t3
-overflow-add-t3 c = fits c.requires.supplied (t3 ⊕ t4) tt
+pub overflow_add-t3 : goal.overflow_add-t3
+overflow_add-t3 c = fits c.requires.supplied (t3 ⊕ t4) tt
 
 pub product-made-requires-3 : goal.product-made-requires-3
 product-made-requires-3 c = record { few = omega (arith, counted c.product-made.ensures, counted c.product-made-2.ensures); room = fits c.requires.supplied turn tt }
 
-pub overflow-add-sin : goal.overflow-add-sin
-overflow-add-sin c = fits c.requires.supplied (sin 1 ⊕ sin 2) tt
+pub overflow_add-sin : goal.overflow_add-sin
+overflow_add-sin c = fits c.requires.supplied (sin 1 ⊕ sin 2) tt
 
 pub product-made-requires-4 : goal.product-made-requires-4
 product-made-requires-4 c = record { few = omega (arith, counted c.product-made.ensures, counted c.product-made-2.ensures, counted c.product-made-3.ensures); room = fits c.requires.supplied low tt }
 
-pub overflow-sub-sin : goal.overflow-sub-sin
-overflow-sub-sin c = fits c.requires.supplied (sin 1 ⊖ sin 2) tt
+pub overflow_sub-sin : goal.overflow_sub-sin
+overflow_sub-sin c = fits c.requires.supplied (sin 1 ⊖ sin 2) tt
 
 pub product-made-requires-5 : goal.product-made-requires-5
 product-made-requires-5 c = record { few = omega (arith, counted c.product-made.ensures, counted c.product-made-2.ensures, counted c.product-made-3.ensures, counted c.product-made-4.ensures); room = fits c.requires.supplied high tt }
 
-pub overflow-add-double : goal.overflow-add-double
-overflow-add-double c = fits_with c.requires.supplied (product_known c.requires.supplied both tt c.product-made.ensures ∷ []) (double ⊕ result 0) tt
+pub overflow_add-double : goal.overflow_add-double
+overflow_add-double c = fits_with c.requires.supplied (product_known c.requires.supplied both tt c.product-made.ensures ∷ []) (double ⊕ result 0) tt
 
-pub overflow-add-double-2 : goal.overflow-add-double-2
-overflow-add-double-2 c = fits_with c.requires.supplied (product_known c.requires.supplied both tt c.product-made.ensures ∷ product_known c.requires.supplied apart tt c.product-made-2.ensures ∷ []) (double ⊕ result 0 ⊕ result 1) tt
+pub overflow_add-double-2 : goal.overflow_add-double-2
+overflow_add-double-2 c = fits_with c.requires.supplied (product_known c.requires.supplied both tt c.product-made.ensures ∷ product_known c.requires.supplied apart tt c.product-made-2.ensures ∷ []) (double ⊕ result 0 ⊕ result 1) tt
 
 pub halved-first-requires : goal.halved-first-requires
 halved-first-requires c = record { exact = divides c.requires.supplied (product_known c.requires.supplied both tt c.product-made.ensures ∷ product_known c.requires.supplied apart tt c.product-made-2.ensures ∷ []) 5 c.requires.whole 2 (double ⊕ result 0 ⊕ result 1) first tt tt }
 
-pub overflow-add-double-3 : goal.overflow-add-double-3
-overflow-add-double-3 c = fits_with c.requires.supplied (product_known c.requires.supplied both tt c.product-made.ensures ∷ []) (double ⊕ result 0) tt
+pub overflow_add-double-3 : goal.overflow_add-double-3
+overflow_add-double-3 c = fits_with c.requires.supplied (product_known c.requires.supplied both tt c.product-made.ensures ∷ []) (double ⊕ result 0) tt
 
-pub overflow-sub-double : goal.overflow-sub-double
-overflow-sub-double c = fits_with c.requires.supplied (product_known c.requires.supplied both tt c.product-made.ensures ∷ product_known c.requires.supplied apart tt c.product-made-2.ensures ∷ []) (double ⊕ result 0 ⊖ result 1) tt
+pub overflow_sub-double : goal.overflow_sub-double
+overflow_sub-double c = fits_with c.requires.supplied (product_known c.requires.supplied both tt c.product-made.ensures ∷ product_known c.requires.supplied apart tt c.product-made-2.ensures ∷ []) (double ⊕ result 0 ⊖ result 1) tt
 
 pub halved-second-requires : goal.halved-second-requires
 halved-second-requires c = record { exact = divides c.requires.supplied (product_known c.requires.supplied both tt c.product-made.ensures ∷ product_known c.requires.supplied apart tt c.product-made-2.ensures ∷ []) 5 c.requires.whole 2 (double ⊕ result 0 ⊖ result 1) second tt tt }
 
-pub overflow-sub-turn : goal.overflow-sub-turn
-overflow-sub-turn c = fits_with c.requires.supplied (product_known c.requires.supplied turn tt c.product-made-3.ensures ∷ product_known c.requires.supplied low tt c.product-made-4.ensures ∷ []) (result 0 ⊖ result 1) tt
+pub overflow_sub-turn : goal.overflow_sub-turn
+overflow_sub-turn c = fits_with c.requires.supplied (product_known c.requires.supplied turn tt c.product-made-3.ensures ∷ product_known c.requires.supplied low tt c.product-made-4.ensures ∷ []) (result 0 ⊖ result 1) tt
 
-pub overflow-add-turn : goal.overflow-add-turn
-overflow-add-turn c = fits_with c.requires.supplied (product_known c.requires.supplied turn tt c.product-made-3.ensures ∷ product_known c.requires.supplied high tt c.product-made-5.ensures ∷ []) (result 0 ⊕ result 1) tt
+pub overflow_add-turn : goal.overflow_add-turn
+overflow_add-turn c = fits_with c.requires.supplied (product_known c.requires.supplied turn tt c.product-made-3.ensures ∷ product_known c.requires.supplied high tt c.product-made-5.ensures ∷ []) (result 0 ⊕ result 1) tt
 
 pub returns : goal.returns
 returns c = record {
   made = omega (arith, counted c.product-made.ensures, counted c.product-made-2.ensures, counted c.product-made-3.ensures, counted c.product-made-4.ensures, counted c.product-made-5.ensures);
-  writes = c.copy-from-slice.ensures.after
+  writes = c.copy_from_slice.ensures.after
       ∙ written c.requires.supplied
       (quotient_known c.requires.supplied (product_known c.requires.supplied both tt c.product-made.ensures ∷ product_known c.requires.supplied apart tt c.product-made-2.ensures ∷ []) 5 c.requires.whole 2 (double ⊕ result 0 ⊕ result 1) first tt tt c.halved-first.result (lit< tt) tt c.halved-first.ensures
       ∷ quotient_known c.requires.supplied (product_known c.requires.supplied both tt c.product-made.ensures ∷ product_known c.requires.supplied apart tt c.product-made-2.ensures ∷ []) 5 c.requires.whole 2 (double ⊕ result 0 ⊖ result 1) second tt tt c.halved-second.result (lit< tt) tt c.halved-second.ensures

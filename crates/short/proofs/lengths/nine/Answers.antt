@@ -64,38 +64,38 @@ third2 = cos 0 ⊗ (lit (pos 2) ⊗ thirds ⊖ rest)
 abbrev third : Exp
 third = cos 0 ⊗ thirds ⊕ cos 3 ⊗ rest
 
-pub overflow-add-t1 : goal.overflow-add-t1
-overflow-add-t1 c = fits c.requires.supplied t1 tt
+pub overflow_add-t1 : goal.overflow_add-t1
+overflow_add-t1 c = fits c.requires.supplied t1 tt
 
-pub overflow-sub-t8 : goal.overflow-sub-t8
-overflow-sub-t8 c = fits c.requires.supplied t8 tt
+pub overflow_sub-t8 : goal.overflow_sub-t8
+overflow_sub-t8 c = fits c.requires.supplied t8 tt
 
-pub overflow-add-t2 : goal.overflow-add-t2
-overflow-add-t2 c = fits c.requires.supplied t2 tt
+pub overflow_add-t2 : goal.overflow_add-t2
+overflow_add-t2 c = fits c.requires.supplied t2 tt
 
-pub overflow-sub-t7 : goal.overflow-sub-t7
-overflow-sub-t7 c = fits c.requires.supplied t7 tt
+pub overflow_sub-t7 : goal.overflow_sub-t7
+overflow_sub-t7 c = fits c.requires.supplied t7 tt
 
-pub overflow-add-t3 : goal.overflow-add-t3
-overflow-add-t3 c = fits c.requires.supplied t3 tt
+pub overflow_add-t3 : goal.overflow_add-t3
+overflow_add-t3 c = fits c.requires.supplied t3 tt
 
-pub overflow-sub-t6 : goal.overflow-sub-t6
-overflow-sub-t6 c = fits c.requires.supplied t6 tt
+pub overflow_sub-t6 : goal.overflow_sub-t6
+overflow_sub-t6 c = fits c.requires.supplied t6 tt
 
-pub overflow-add-t4 : goal.overflow-add-t4
-overflow-add-t4 c = fits c.requires.supplied t4 tt
+pub overflow_add-t4 : goal.overflow_add-t4
+overflow_add-t4 c = fits c.requires.supplied t4 tt
 
-pub overflow-sub-t5 : goal.overflow-sub-t5
-overflow-sub-t5 c = fits c.requires.supplied t5 tt
+pub overflow_sub-t5 : goal.overflow_sub-t5
+overflow_sub-t5 c = fits c.requires.supplied t5 tt
 
-pub overflow-add-thirds : goal.overflow-add-thirds
-overflow-add-thirds c = fits c.requires.supplied thirds tt
+pub overflow_add-thirds : goal.overflow_add-thirds
+overflow_add-thirds c = fits c.requires.supplied thirds tt
 
-pub overflow-add-rest : goal.overflow-add-rest
-overflow-add-rest c = fits c.requires.supplied (t1 ⊕ t2) tt
+pub overflow_add-rest : goal.overflow_add-rest
+overflow_add-rest c = fits c.requires.supplied (t1 ⊕ t2) tt
 
-pub overflow-add-rest-2 : goal.overflow-add-rest-2
-overflow-add-rest-2 c = fits c.requires.supplied rest tt
+pub overflow_add-rest-2 : goal.overflow_add-rest-2
+overflow_add-rest-2 c = fits c.requires.supplied rest tt
 
 pub turned-made-requires : goal.turned-made-requires
 turned-made-requires c = record { few = lit< tt; small = turnable c.requires.supplied cosines sums tt tt }
@@ -106,70 +106,70 @@ turned-made-requires-2 c = record { few = omega (arith, counted c.turned-made.en
 pub product-made-requires : goal.product-made-requires
 product-made-requires c = record { few = omega (arith, counted c.turned-made.ensures, counted c.turned-made-2.ensures); room = fits c.requires.supplied side tt }
 
-pub overflow-add-t7 : goal.overflow-add-t7
-overflow-add-t7 c = fits c.requires.supplied (t7 ⊕ t5) tt
+pub overflow_add-t7 : goal.overflow_add-t7
+overflow_add-t7 c = fits c.requires.supplied (t7 ⊕ t5) tt
 
-pub overflow-add-t7-2 : goal.overflow-add-t7-2
-overflow-add-t7-2 c = fits c.requires.supplied (t7 ⊕ t5 ⊕ t8) tt
+pub overflow_add-t7-2 : goal.overflow_add-t7-2
+overflow_add-t7-2 c = fits c.requires.supplied (t7 ⊕ t5 ⊕ t8) tt
 
 pub product-made-requires-2 : goal.product-made-requires-2
 product-made-requires-2 c = record { few = omega (arith, counted c.turned-made.ensures, counted c.turned-made-2.ensures, counted c.product-made.ensures); room = fits c.requires.supplied sixth tt }
 
-pub overflow-mul-x : goal.overflow-mul-x
-overflow-mul-x c = fits c.requires.supplied (lit (pos 2) ⊗ x 0) tt
+pub overflow_mul-x : goal.overflow_mul-x
+overflow_mul-x c = fits c.requires.supplied (lit (pos 2) ⊗ x 0) tt
 
-pub overflow-sub-x : goal.overflow-sub-x
-overflow-sub-x c = fits c.requires.supplied (lit (pos 2) ⊗ x 0 ⊖ t3) tt
+pub overflow_sub-x : goal.overflow_sub-x
+overflow_sub-x c = fits c.requires.supplied (lit (pos 2) ⊗ x 0 ⊖ t3) tt
 
-pub overflow-mul-scale : goal.overflow-mul-scale
-overflow-mul-scale c = fits c.requires.supplied base2 tt
+pub overflow_mul-scale : goal.overflow_mul-scale
+overflow_mul-scale c = fits c.requires.supplied base2 tt
 
 pub halved-base-requires : goal.halved-base-requires
 halved-base-requires c = record { exact = divides c.requires.supplied [] 9 c.requires.whole 2 base2 base tt tt }
 
-pub overflow-mul-thirds : goal.overflow-mul-thirds
-overflow-mul-thirds c = fits c.requires.supplied (lit (pos 2) ⊗ thirds) tt
+pub overflow_mul-thirds : goal.overflow_mul-thirds
+overflow_mul-thirds c = fits c.requires.supplied (lit (pos 2) ⊗ thirds) tt
 
-pub overflow-sub-thirds : goal.overflow-sub-thirds
-overflow-sub-thirds c = fits c.requires.supplied (lit (pos 2) ⊗ thirds ⊖ rest) tt
+pub overflow_sub-thirds : goal.overflow_sub-thirds
+overflow_sub-thirds c = fits c.requires.supplied (lit (pos 2) ⊗ thirds ⊖ rest) tt
 
-pub overflow-mul-scale-2 : goal.overflow-mul-scale-2
-overflow-mul-scale-2 c = fits c.requires.supplied third2 tt
+pub overflow_mul-scale-2 : goal.overflow_mul-scale-2
+overflow_mul-scale-2 c = fits c.requires.supplied third2 tt
 
 pub halved-third-requires : goal.halved-third-requires
 halved-third-requires c = record { exact = divides c.requires.supplied [] 9 c.requires.whole 2 third2 third tt tt }
 
-pub overflow-add-bins : goal.overflow-add-bins
-overflow-add-bins c = fits c.requires.supplied (thirds ⊕ rest) tt
+pub overflow_add-bins : goal.overflow_add-bins
+overflow_add-bins c = fits c.requires.supplied (thirds ⊕ rest) tt
 
-pub overflow-mul-bins : goal.overflow-mul-bins
-overflow-mul-bins c = fits c.requires.supplied (cos 0 ⊗ (thirds ⊕ rest)) tt
+pub overflow_mul-bins : goal.overflow_mul-bins
+overflow_mul-bins c = fits c.requires.supplied (cos 0 ⊗ (thirds ⊕ rest)) tt
 
-pub overflow-add-bins-2 : goal.overflow-add-bins-2
-overflow-add-bins-2 c = fits_with c.requires.supplied (quotient_known c.requires.supplied [] 9 c.requires.whole 2 base2 base tt tt c.halved-base.result (lit< tt) tt c.halved-base.ensures ∷ turn_known c.requires.supplied cosines sums 0 (lit< tt) tt tt tt c.turned-made.ensures ∷ []) (result 0 ⊕ result 1) tt
+pub overflow_add-bins-2 : goal.overflow_add-bins-2
+overflow_add-bins-2 c = fits_with c.requires.supplied (quotient_known c.requires.supplied [] 9 c.requires.whole 2 base2 base tt tt c.halved-base.result (lit< tt) tt c.halved-base.ensures ∷ turn_known c.requires.supplied cosines sums 0 (lit< tt) tt tt tt c.turned-made.ensures ∷ []) (result 0 ⊕ result 1) tt
 
-pub overflow-add-bins-3 : goal.overflow-add-bins-3
-overflow-add-bins-3 c = fits_with c.requires.supplied (quotient_known c.requires.supplied [] 9 c.requires.whole 2 base2 base tt tt c.halved-base.result (lit< tt) tt c.halved-base.ensures ∷ turn_known c.requires.supplied cosines sums 1 (lit< tt) tt tt tt c.turned-made.ensures ∷ []) (result 0 ⊕ result 1) tt
+pub overflow_add-bins-3 : goal.overflow_add-bins-3
+overflow_add-bins-3 c = fits_with c.requires.supplied (quotient_known c.requires.supplied [] 9 c.requires.whole 2 base2 base tt tt c.halved-base.result (lit< tt) tt c.halved-base.ensures ∷ turn_known c.requires.supplied cosines sums 1 (lit< tt) tt tt tt c.turned-made.ensures ∷ []) (result 0 ⊕ result 1) tt
 
-pub overflow-add-bins-4 : goal.overflow-add-bins-4
-overflow-add-bins-4 c = fits_with c.requires.supplied (quotient_known c.requires.supplied [] 9 c.requires.whole 2 base2 base tt tt c.halved-base.result (lit< tt) tt c.halved-base.ensures ∷ turn_known c.requires.supplied cosines sums 2 (lit< tt) tt tt tt c.turned-made.ensures ∷ []) (result 0 ⊕ result 1) tt
+pub overflow_add-bins-4 : goal.overflow_add-bins-4
+overflow_add-bins-4 c = fits_with c.requires.supplied (quotient_known c.requires.supplied [] 9 c.requires.whole 2 base2 base tt tt c.halved-base.result (lit< tt) tt c.halved-base.ensures ∷ turn_known c.requires.supplied cosines sums 2 (lit< tt) tt tt tt c.turned-made.ensures ∷ []) (result 0 ⊕ result 1) tt
 
-pub overflow-add-bins-5 : goal.overflow-add-bins-5
-overflow-add-bins-5 c = fits_with c.requires.supplied (product_known c.requires.supplied side tt c.product-made.ensures ∷ turn_known c.requires.supplied sines differences 0 (lit< tt) tt tt tt c.turned-made-2.ensures ∷ []) (result 0 ⊕ result 1) tt
+pub overflow_add-bins-5 : goal.overflow_add-bins-5
+overflow_add-bins-5 c = fits_with c.requires.supplied (product_known c.requires.supplied side tt c.product-made.ensures ∷ turn_known c.requires.supplied sines differences 0 (lit< tt) tt tt tt c.turned-made-2.ensures ∷ []) (result 0 ⊕ result 1) tt
 
-pub overflow-add-bins-6 : goal.overflow-add-bins-6
-overflow-add-bins-6 c = fits_with c.requires.supplied (product_known c.requires.supplied side tt c.product-made.ensures ∷ turn_known c.requires.supplied sines differences 2 (lit< tt) tt tt tt c.turned-made-2.ensures ∷ []) (result 0 ⊕ result 1) tt
+pub overflow_add-bins-6 : goal.overflow_add-bins-6
+overflow_add-bins-6 c = fits_with c.requires.supplied (product_known c.requires.supplied side tt c.product-made.ensures ∷ turn_known c.requires.supplied sines differences 2 (lit< tt) tt tt tt c.turned-made-2.ensures ∷ []) (result 0 ⊕ result 1) tt
 
-pub overflow-add-bins-7 : goal.overflow-add-bins-7
-overflow-add-bins-7 c = fits_with c.requires.supplied (product_known c.requires.supplied side tt c.product-made.ensures ∷ turn_known c.requires.supplied sines differences 1 (lit< tt) tt tt tt c.turned-made-2.ensures ∷ []) (result 0 ⊕ result 1) tt
+pub overflow_add-bins-7 : goal.overflow_add-bins-7
+overflow_add-bins-7 c = fits_with c.requires.supplied (product_known c.requires.supplied side tt c.product-made.ensures ∷ turn_known c.requires.supplied sines differences 1 (lit< tt) tt tt tt c.turned-made-2.ensures ∷ []) (result 0 ⊕ result 1) tt
 
-pub overflow-sub-bins : goal.overflow-sub-bins
-overflow-sub-bins c = fits_with c.requires.supplied (product_known c.requires.supplied side tt c.product-made.ensures ∷ turn_known c.requires.supplied sines differences 2 (lit< tt) tt tt tt c.turned-made-2.ensures ∷ []) (neg (result 0 ⊕ result 1)) tt
+pub overflow_sub-bins : goal.overflow_sub-bins
+overflow_sub-bins c = fits_with c.requires.supplied (product_known c.requires.supplied side tt c.product-made.ensures ∷ turn_known c.requires.supplied sines differences 2 (lit< tt) tt tt tt c.turned-made-2.ensures ∷ []) (neg (result 0 ⊕ result 1)) tt
 
 pub returns : goal.returns
 returns c = record {
   made = omega (arith, counted c.turned-made.ensures, counted c.turned-made-2.ensures, counted c.product-made.ensures, counted c.product-made-2.ensures);
-  writes = c.copy-from-slice.ensures.after
+  writes = c.copy_from_slice.ensures.after
       ∙ written c.requires.supplied
       (quotient_known c.requires.supplied [] 9 c.requires.whole 2 base2 base tt tt c.halved-base.result (lit< tt) tt c.halved-base.ensures
       ∷ quotient_known c.requires.supplied [] 9 c.requires.whole 2 third2 third tt tt c.halved-third.result (lit< tt) tt c.halved-third.ensures

@@ -37,44 +37,44 @@ sines = sin 1 ∷ sin 2 ∷ sin 4 ∷ []
 abbrev differences : List Exp
 differences = t6 ∷ t5 ∷ t4 ∷ []
 
-pub overflow-add-t1 : goal.overflow-add-t1
-overflow-add-t1 c = fits c.requires.supplied t1 tt
+pub overflow_add-t1 : goal.overflow_add-t1
+overflow_add-t1 c = fits c.requires.supplied t1 tt
 
-pub overflow-sub-t6 : goal.overflow-sub-t6
-overflow-sub-t6 c = fits c.requires.supplied t6 tt
+pub overflow_sub-t6 : goal.overflow_sub-t6
+overflow_sub-t6 c = fits c.requires.supplied t6 tt
 
-pub overflow-add-t2 : goal.overflow-add-t2
-overflow-add-t2 c = fits c.requires.supplied t2 tt
+pub overflow_add-t2 : goal.overflow_add-t2
+overflow_add-t2 c = fits c.requires.supplied t2 tt
 
-pub overflow-sub-t5 : goal.overflow-sub-t5
-overflow-sub-t5 c = fits c.requires.supplied t5 tt
+pub overflow_sub-t5 : goal.overflow_sub-t5
+overflow_sub-t5 c = fits c.requires.supplied t5 tt
 
-pub overflow-add-t3 : goal.overflow-add-t3
-overflow-add-t3 c = fits c.requires.supplied t3 tt
+pub overflow_add-t3 : goal.overflow_add-t3
+overflow_add-t3 c = fits c.requires.supplied t3 tt
 
-pub overflow-sub-t4 : goal.overflow-sub-t4
-overflow-sub-t4 c = fits c.requires.supplied t4 tt
+pub overflow_sub-t4 : goal.overflow_sub-t4
+overflow_sub-t4 c = fits c.requires.supplied t4 tt
 
-pub overflow-add-all : goal.overflow-add-all
-overflow-add-all c = fits c.requires.supplied (x 0 ⊕ t1) tt
+pub overflow_add-all : goal.overflow_add-all
+overflow_add-all c = fits c.requires.supplied (x 0 ⊕ t1) tt
 
-pub overflow-add-all-2 : goal.overflow-add-all-2
-overflow-add-all-2 c = fits c.requires.supplied (x 0 ⊕ t1 ⊕ t2) tt
+pub overflow_add-all-2 : goal.overflow_add-all-2
+overflow_add-all-2 c = fits c.requires.supplied (x 0 ⊕ t1 ⊕ t2) tt
 
-pub overflow-add-all-3 : goal.overflow-add-all-3
-overflow-add-all-3 c = fits c.requires.supplied (x 0 ⊕ t1 ⊕ t2 ⊕ t3) tt
+pub overflow_add-all-3 : goal.overflow_add-all-3
+overflow_add-all-3 c = fits c.requires.supplied (x 0 ⊕ t1 ⊕ t2 ⊕ t3) tt
 
-pub overflow-mul-all : goal.overflow-mul-all
-overflow-mul-all c = fits c.requires.supplied all tt
+pub overflow_mul-all : goal.overflow_mul-all
+overflow_mul-all c = fits c.requires.supplied all tt
 
-pub overflow-sub-steps : goal.overflow-sub-steps
-overflow-sub-steps c = fits c.requires.supplied (cos 1 ⊖ cos 0) tt
+pub overflow_sub-steps : goal.overflow_sub-steps
+overflow_sub-steps c = fits c.requires.supplied (cos 1 ⊖ cos 0) tt
 
-pub overflow-sub-steps-2 : goal.overflow-sub-steps-2
-overflow-sub-steps-2 c = fits c.requires.supplied (cos 2 ⊖ cos 0) tt
+pub overflow_sub-steps-2 : goal.overflow_sub-steps-2
+overflow_sub-steps-2 c = fits c.requires.supplied (cos 2 ⊖ cos 0) tt
 
-pub overflow-sub-steps-3 : goal.overflow-sub-steps-3
-overflow-sub-steps-3 c = fits c.requires.supplied (cos 3 ⊖ cos 0) tt
+pub overflow_sub-steps-3 : goal.overflow_sub-steps-3
+overflow_sub-steps-3 c = fits c.requires.supplied (cos 3 ⊖ cos 0) tt
 
 pub turned-made-requires : goal.turned-made-requires
 turned-made-requires c = record { few = lit< tt; small = turnable c.requires.supplied steps sums tt tt }
@@ -82,22 +82,22 @@ turned-made-requires c = record { few = lit< tt; small = turnable c.requires.sup
 pub turned-made-requires-2 : goal.turned-made-requires-2
 turned-made-requires-2 c = record { few = omega (arith, counted c.turned-made.ensures); small = turnable c.requires.supplied sines differences tt tt }
 
-pub overflow-add-bins : goal.overflow-add-bins
-overflow-add-bins c = fits_with c.requires.supplied (turn_known c.requires.supplied steps sums 0 (lit< tt) tt tt tt c.turned-made.ensures ∷ []) (all ⊕ result 0) tt
+pub overflow_add-bins : goal.overflow_add-bins
+overflow_add-bins c = fits_with c.requires.supplied (turn_known c.requires.supplied steps sums 0 (lit< tt) tt tt tt c.turned-made.ensures ∷ []) (all ⊕ result 0) tt
 
-pub overflow-add-bins-2 : goal.overflow-add-bins-2
-overflow-add-bins-2 c = fits_with c.requires.supplied (turn_known c.requires.supplied steps sums 1 (lit< tt) tt tt tt c.turned-made.ensures ∷ []) (all ⊕ result 0) tt
+pub overflow_add-bins-2 : goal.overflow_add-bins-2
+overflow_add-bins-2 c = fits_with c.requires.supplied (turn_known c.requires.supplied steps sums 1 (lit< tt) tt tt tt c.turned-made.ensures ∷ []) (all ⊕ result 0) tt
 
-pub overflow-add-bins-3 : goal.overflow-add-bins-3
-overflow-add-bins-3 c = fits_with c.requires.supplied (turn_known c.requires.supplied steps sums 2 (lit< tt) tt tt tt c.turned-made.ensures ∷ []) (all ⊕ result 0) tt
+pub overflow_add-bins-3 : goal.overflow_add-bins-3
+overflow_add-bins-3 c = fits_with c.requires.supplied (turn_known c.requires.supplied steps sums 2 (lit< tt) tt tt tt c.turned-made.ensures ∷ []) (all ⊕ result 0) tt
 
-pub overflow-sub-bins : goal.overflow-sub-bins
-overflow-sub-bins c = fits_with c.requires.supplied (turn_known c.requires.supplied sines differences 2 (lit< tt) tt tt tt c.turned-made-2.ensures ∷ []) (neg (result 0)) tt
+pub overflow_sub-bins : goal.overflow_sub-bins
+overflow_sub-bins c = fits_with c.requires.supplied (turn_known c.requires.supplied sines differences 2 (lit< tt) tt tt tt c.turned-made-2.ensures ∷ []) (neg (result 0)) tt
 
 pub returns : goal.returns
 returns c = record {
   made = omega (arith, counted c.turned-made.ensures, counted c.turned-made-2.ensures);
-  writes = c.copy-from-slice.ensures.after
+  writes = c.copy_from_slice.ensures.after
       ∙ written c.requires.supplied
       (turn_known c.requires.supplied steps sums 0 (lit< tt) tt tt tt c.turned-made.ensures
       ∷ turn_known c.requires.supplied steps sums 1 (lit< tt) tt tt tt c.turned-made.ensures

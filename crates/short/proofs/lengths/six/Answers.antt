@@ -49,32 +49,32 @@ all = cos 0 ⊗ (u0 ⊕ even)
 abbrev middle : Exp
 middle = cos 0 ⊗ (w0 ⊕ odd)
 
-pub overflow-sub-step : goal.overflow-sub-step
-overflow-sub-step c = fits c.requires.supplied step tt
+pub overflow_sub-step : goal.overflow_sub-step
+overflow_sub-step c = fits c.requires.supplied step tt
 
-pub overflow-add-u0 : goal.overflow-add-u0
-overflow-add-u0 c = fits c.requires.supplied u0 tt
+pub overflow_add-u0 : goal.overflow_add-u0
+overflow_add-u0 c = fits c.requires.supplied u0 tt
 
-pub overflow-sub-w0 : goal.overflow-sub-w0
-overflow-sub-w0 c = fits c.requires.supplied w0 tt
+pub overflow_sub-w0 : goal.overflow_sub-w0
+overflow_sub-w0 c = fits c.requires.supplied w0 tt
 
-pub overflow-add-u1 : goal.overflow-add-u1
-overflow-add-u1 c = fits c.requires.supplied u1 tt
+pub overflow_add-u1 : goal.overflow_add-u1
+overflow_add-u1 c = fits c.requires.supplied u1 tt
 
-pub overflow-sub-w1 : goal.overflow-sub-w1
-overflow-sub-w1 c = fits c.requires.supplied w1 tt
+pub overflow_sub-w1 : goal.overflow_sub-w1
+overflow_sub-w1 c = fits c.requires.supplied w1 tt
 
-pub overflow-add-u2 : goal.overflow-add-u2
-overflow-add-u2 c = fits c.requires.supplied u2 tt
+pub overflow_add-u2 : goal.overflow_add-u2
+overflow_add-u2 c = fits c.requires.supplied u2 tt
 
-pub overflow-sub-w2 : goal.overflow-sub-w2
-overflow-sub-w2 c = fits c.requires.supplied w2 tt
+pub overflow_sub-w2 : goal.overflow_sub-w2
+overflow_sub-w2 c = fits c.requires.supplied w2 tt
 
-pub overflow-add-even : goal.overflow-add-even
-overflow-add-even c = fits c.requires.supplied even tt
+pub overflow_add-even : goal.overflow_add-even
+overflow_add-even c = fits c.requires.supplied even tt
 
-pub overflow-add-odd : goal.overflow-add-odd
-overflow-add-odd c = fits c.requires.supplied odd tt
+pub overflow_add-odd : goal.overflow_add-odd
+overflow_add-odd c = fits c.requires.supplied odd tt
 
 pub product-made-requires : goal.product-made-requires
 product-made-requires c = record { few = lit< tt; room = fits c.requires.supplied near tt }
@@ -82,40 +82,40 @@ product-made-requires c = record { few = lit< tt; room = fits c.requires.supplie
 pub product-made-requires-2 : goal.product-made-requires-2
 product-made-requires-2 c = record { few = omega (arith, counted c.product-made.ensures); room = fits c.requires.supplied far tt }
 
-pub overflow-sub-u1 : goal.overflow-sub-u1
-overflow-sub-u1 c = fits c.requires.supplied (u1 ⊖ u2) tt
+pub overflow_sub-u1 : goal.overflow_sub-u1
+overflow_sub-u1 c = fits c.requires.supplied (u1 ⊖ u2) tt
 
 pub product-made-requires-3 : goal.product-made-requires-3
 product-made-requires-3 c = record { few = omega (arith, counted c.product-made.ensures, counted c.product-made-2.ensures); room = fits c.requires.supplied low tt }
 
-pub overflow-sub-w2-2 : goal.overflow-sub-w2-2
-overflow-sub-w2-2 c = fits c.requires.supplied (w2 ⊖ w1) tt
+pub overflow_sub-w2-2 : goal.overflow_sub-w2-2
+overflow_sub-w2-2 c = fits c.requires.supplied (w2 ⊖ w1) tt
 
 pub product-made-requires-4 : goal.product-made-requires-4
 product-made-requires-4 c = record { few = omega (arith, counted c.product-made.ensures, counted c.product-made-2.ensures, counted c.product-made-3.ensures); room = fits c.requires.supplied high tt }
 
-pub overflow-add-all : goal.overflow-add-all
-overflow-add-all c = fits c.requires.supplied (u0 ⊕ even) tt
+pub overflow_add-all : goal.overflow_add-all
+overflow_add-all c = fits c.requires.supplied (u0 ⊕ even) tt
 
-pub overflow-mul-all : goal.overflow-mul-all
-overflow-mul-all c = fits c.requires.supplied all tt
+pub overflow_mul-all : goal.overflow_mul-all
+overflow_mul-all c = fits c.requires.supplied all tt
 
-pub overflow-add-middle : goal.overflow-add-middle
-overflow-add-middle c = fits c.requires.supplied (w0 ⊕ odd) tt
+pub overflow_add-middle : goal.overflow_add-middle
+overflow_add-middle c = fits c.requires.supplied (w0 ⊕ odd) tt
 
-pub overflow-mul-middle : goal.overflow-mul-middle
-overflow-mul-middle c = fits c.requires.supplied middle tt
+pub overflow_mul-middle : goal.overflow_mul-middle
+overflow_mul-middle c = fits c.requires.supplied middle tt
 
-pub overflow-add-middle-2 : goal.overflow-add-middle-2
-overflow-add-middle-2 c = fits_with c.requires.supplied (product_known c.requires.supplied near tt c.product-made.ensures ∷ []) (middle ⊕ result 0) tt
+pub overflow_add-middle-2 : goal.overflow_add-middle-2
+overflow_add-middle-2 c = fits_with c.requires.supplied (product_known c.requires.supplied near tt c.product-made.ensures ∷ []) (middle ⊕ result 0) tt
 
-pub overflow-add-all-2 : goal.overflow-add-all-2
-overflow-add-all-2 c = fits_with c.requires.supplied (product_known c.requires.supplied far tt c.product-made-2.ensures ∷ []) (all ⊕ result 0) tt
+pub overflow_add-all-2 : goal.overflow_add-all-2
+overflow_add-all-2 c = fits_with c.requires.supplied (product_known c.requires.supplied far tt c.product-made-2.ensures ∷ []) (all ⊕ result 0) tt
 
 pub returns : goal.returns
 returns c = record {
   made = omega (arith, counted c.product-made.ensures, counted c.product-made-2.ensures, counted c.product-made-3.ensures, counted c.product-made-4.ensures);
-  writes = c.copy-from-slice.ensures.after
+  writes = c.copy_from_slice.ensures.after
       ∙ written c.requires.supplied
       (product_known c.requires.supplied near tt c.product-made.ensures
       ∷ product_known c.requires.supplied far tt c.product-made-2.ensures

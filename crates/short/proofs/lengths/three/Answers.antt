@@ -16,34 +16,34 @@ part = (cos 1 ⊖ cos 0) ⊗ sum
 abbrev last : Exp
 last = sin 1 ⊗ (x 1 ⊖ x 2)
 
-pub overflow-add-sum : goal.overflow-add-sum
-overflow-add-sum c = fits c.requires.supplied sum tt
+pub overflow_add-sum : goal.overflow_add-sum
+overflow_add-sum c = fits c.requires.supplied sum tt
 
-pub overflow-add-all : goal.overflow-add-all
-overflow-add-all c = fits c.requires.supplied (x 0 ⊕ sum) tt
+pub overflow_add-all : goal.overflow_add-all
+overflow_add-all c = fits c.requires.supplied (x 0 ⊕ sum) tt
 
-pub overflow-mul-all : goal.overflow-mul-all
-overflow-mul-all c = fits c.requires.supplied all tt
+pub overflow_mul-all : goal.overflow_mul-all
+overflow_mul-all c = fits c.requires.supplied all tt
 
-pub overflow-sub-cos : goal.overflow-sub-cos
-overflow-sub-cos c = fits c.requires.supplied (cos 1 ⊖ cos 0) tt
+pub overflow_sub-cos : goal.overflow_sub-cos
+overflow_sub-cos c = fits c.requires.supplied (cos 1 ⊖ cos 0) tt
 
 pub product-made-requires : goal.product-made-requires
 product-made-requires c = record { few = lit< tt; room = fits c.requires.supplied part tt }
 
-pub overflow-sub-x : goal.overflow-sub-x
-overflow-sub-x c = fits c.requires.supplied (x 1 ⊖ x 2) tt
+pub overflow_sub-x : goal.overflow_sub-x
+overflow_sub-x c = fits c.requires.supplied (x 1 ⊖ x 2) tt
 
 pub product-made-requires-2 : goal.product-made-requires-2
 product-made-requires-2 c = record { few = omega (arith, counted c.product-made.ensures); room = fits c.requires.supplied last tt }
 
-pub overflow-add-all-2 : goal.overflow-add-all-2
-overflow-add-all-2 c = fits_with c.requires.supplied (product_known c.requires.supplied part tt c.product-made.ensures ∷ []) (all ⊕ result 0) tt
+pub overflow_add-all-2 : goal.overflow_add-all-2
+overflow_add-all-2 c = fits_with c.requires.supplied (product_known c.requires.supplied part tt c.product-made.ensures ∷ []) (all ⊕ result 0) tt
 
 pub returns : goal.returns
 returns c = record {
   made = omega (arith, counted c.product-made.ensures, counted c.product-made-2.ensures);
-  writes = c.copy-from-slice.ensures.after
+  writes = c.copy_from_slice.ensures.after
       ∙ written c.requires.supplied
       (product_known c.requires.supplied part tt c.product-made.ensures
       ∷ product_known c.requires.supplied last tt c.product-made-2.ensures

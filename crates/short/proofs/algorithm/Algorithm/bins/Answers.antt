@@ -1,5 +1,5 @@
 use Rattle.short.specs.declared.algorithm.Algorithm.TheVariants.{Three, Four, Five, Six, Seven, Eight, Nine}
-use Rattle.short.specs.Choice.{given}
+use Rattle.short.proofs.Choice.{given}
 use Rattle.short.proofs.algorithm.Algorithm.bins.Goals as goal
 
 pub three-requires : goal.three-requires

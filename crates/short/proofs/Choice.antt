@@ -1,24 +1,14 @@
--- What an algorithm of a length is given, and that it makes no more products than the direct sums. Assumes nothing.
-use Rattle.std.specs.Prelude.{◌≡◌, ℕ, ◌*◌, ◌≤◌, true, T, List, length, ℤ, nat_le, refl}
-use Rattle.std.proofs.Common.{sym, ap, ◌∙◌, leb→le, lit<, lit≤}
+-- What an algorithm of a length is given. Assumes nothing.
+use Rattle.std.proofs.Common.{◌≡◌, true, List, length, ℤ, sym, refl, ap, ◌∙◌, lit<, lit≤}
 use Rattle.tables.specs.declared.scale.Scale.TheVariants.{Standard}
 use Rattle.tables.specs.Entries.{is_short, row_of, C, S}
-use Rattle.tables.proofs.Lengths.{everywhere, everywhere_at}
-use Rattle.algebra.proofs.Tests.{below}
 use Rattle.short.specs.declared.algorithm.Algorithm.{Algorithm}
 use Rattle.short.specs.declared.algorithm.Algorithm.TheVariants.{Three, Four, Five, Six, Seven, Eight, Nine}
 use Rattle.short.specs.Algorithms.{length_of}
 use Rattle.short.specs.Room.{Small, Given}
-use Rattle.short.specs.Short.{short_limit, fast_count}
-use Rattle.short.specs.Laws.{standard_units}
-use Rattle.short.specs.Weigh.{ready_by}
-
-counts : T (everywhere (λ N. nat_le (fast_count N) (N * N)))
-unfolding everywhere below
-counts = tt
-
-pub few_products : (N : ℕ) → is_short N ≡ true → fast_count N ≤ N * N
-few_products N e = leb→le (fast_count N) (N * N) (everywhere_at _ counts N e)
+use Rattle.short.specs.Short.{short_limit}
+use Rattle.short.proofs.Laws.{standard_units}
+use Rattle.short.proofs.Weigh.{ready_by}
 
 short_length : (a : Algorithm) → is_short (length_of a) ≡ true
 short_length Three = refl

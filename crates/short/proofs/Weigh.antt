@@ -1,8 +1,5 @@
 -- The terms of one bin: each has room in a word, and so has their sum. Assumes nothing.
-use Rattle.std.specs.Prelude.{◌≡◌, ℕ, ◌+◌, ◌*◌, ◌/◌, ◌%◌, ◌^◌, ◌<◌, ◌≤◌, true, List, [], ◌∷◌, length, ℤ, pos, ◌+ℤ◌, ◌-ℤ◌, ◌*ℤ◌, neg_ℤ, slice_index_or, unsigned_abs}
-use Rattle.std.proofs.Common.{sym, ◌∙◌, mod-lt, mul-le-mul, arith, SFits}
-use Rattle.std.proofs.Math.Path.{ap}
-use Rattle.std.specs.Int.{w64}
+use Rattle.std.proofs.Common.{◌≡◌, ℕ, ◌+◌, ◌*◌, ◌/◌, ◌%◌, ◌^◌, ◌<◌, ◌≤◌, true, List, [], ◌∷◌, length, ℤ, pos, ◌+ℤ◌, ◌-ℤ◌, ◌*ℤ◌, neg_ℤ, get_or, nat_abs, sym, ap, ◌∙◌, mod-lt, mul-le-mul, arith, w64, SFits}
 use Rattle.std.proofs.lemmas.Bool.{le-leb, lt-leb}
 use Rattle.algebra.specs.Sums.{Σ}
 use Rattle.algebra.proofs.Integers.{abs-mul}
@@ -19,34 +16,34 @@ use Rattle.short.specs.Room.{Small, Matched, Ready}
 
 -- reading k times the entry that bin n gives it
 abbrev pub term : List ℤ → List ℤ → ℕ → ℕ → ℤ
-term r row n k = reading r k *ℤ slice_index_or row (n * k % length row) (pos 0)
+term r row n k = reading r k *ℤ get_or row (n * k % length row) (pos 0)
 
 module _ (L g : ℕ) (r row : List ℤ) (n : ℕ) (m : Matched L g r row) where
   place : (k : ℕ) → k < length r → n * k % length row < length row
   place k l = mod-lt (n * k) (omega (arith, m.lengths))
 
-  term_small : (k : ℕ) → k < length r → unsigned_abs (term r row n k) ≤ 2 ^ 54
+  term_small : (k : ℕ) → k < length r → nat_abs (term r row n k) ≤ 2 ^ 54
   term_small k l =
       let both = mul-le-mul (m.readings k l) (m.entries (n * k % length row) (place k l)) in
       rw abs-mul (omega (arith, m.room))
 
   -- the product of turn k
   pub made : (k at : ℕ) → k < length r → at ≡ n * k % length row
-      → SFits w64 (word (reading r k) *ℤ word (slice_index_or row at (pos 0))) × (word (reading r k) *ℤ word (slice_index_or row at (pos 0)) ≡ term r row n k)
+      → SFits w64 (word (reading r k) *ℤ word (get_or row at (pos 0))) × (word (reading r k) *ℤ word (get_or row at (pos 0)) ≡ term r row n k)
   made k at l e =
       let entry = m.entries (n * k % length row) (place k l) in
-      let same : word (reading r k) *ℤ word (slice_index_or row at (pos 0)) ≡ term r row n k =
-      rw (e, word_is (reading r k) (omega (arith, m.readings k l, m.L_room)), word_is (slice_index_or row (n * k % length row) (pos 0)) (omega (arith, m.g_room))) in
+      let same : word (reading r k) *ℤ word (get_or row at (pos 0)) ≡ term r row n k =
+      rw (e, word_is (reading r k) (omega (arith, m.readings k l, m.L_room)), word_is (get_or row (n * k % length row) (pos 0)) (omega (arith, m.g_room))) in
       (rw same (word_fits (term r row n k) (omega (arith, term_small k l))), same)
 
   -- the sum after turn k, where `product` answered p
   pub added : (k at count : ℕ) (s : ℤ) (p : ℕ × ℤ) → k < length r → at ≡ n * k % length row → s ≡ Σ k (term r row n)
-      → p ≡ (count, word (reading r k) *ℤ word (slice_index_or row at (pos 0)))
+      → p ≡ (count, word (reading r k) *ℤ word (get_or row at (pos 0)))
       → SFits w64 (s +ℤ word p.1) × (word (s +ℤ word p.1) ≡ Σ (k + 1) (term r row n))
   added k at count s p l e es ep =
       add_term (length r) (2 ^ 54) (term r row n) (omega (arith, m.few)) term_small k s p.1 l es (ap (λ q. q.1) ep ∙ (made k at l e).1)
 
-  whole_small : unsigned_abs (Σ (length r) (term r row n)) ≤ 2 ^ 60
+  whole_small : nat_abs (Σ (length r) (term r row n)) ≤ 2 ^ 60
   whole_small = omega (arith, m.few, Σ_bound (length r) (2 ^ 54) (term r row n) term_small)
 
 -- the sum over a table's row is the sum over the table
@@ -73,7 +70,7 @@ module _ (s : Scale) (L : ℕ) (r cosines sines : List ℤ) (n : ℕ) (ready : R
   sine_bin is h =
       let first : p.0 ≡ made = ap (λ q. q.0) is in
       let second : p.1 ≡ Σ (length r) (term r sines n) = ap (λ q. q.1) is in
-      let small : unsigned_abs p.1 ≤ 2 ^ 60 = rw second (whole_small L (scale_of s) r sines n ready.sines_matched) in
+      let small : nat_abs p.1 ≤ 2 ^ 60 = rw second (whole_small L (scale_of s) r sines n ready.sines_matched) in
       let sum : Σ (length r) (term r sines n) ≡ Σ (length r) (λ k. reading r k *ℤ S s (length r) (n * k % length r)) =
       rw ready.sines_are (over_row (S s) r n ready.short) in
       let ρ = p.1 ∷ [] in
@@ -83,7 +80,7 @@ module _ (s : Scale) (L : ℕ) (r cosines sines : List ℤ) (n : ℕ) (ready : R
 
 -- a scale and a limit whose products leave room
 module _ (s : Scale) (L : ℕ) (L_room : L < 2 ^ 63) (g_room : scale_of s < 2 ^ 63) (room : L * scale_of s ≤ 2 ^ 54) (r : List ℤ) (short : is_short (length r) ≡ true) (readings : Small L r) where
-  row_matched : (table : ℕ → ℕ → ℤ) → ((m : ℕ) → unsigned_abs (table (length r) m) ≤ scale_of s) → Matched L (scale_of s) r (row_of table (length r))
+  row_matched : (table : ℕ → ℕ → ℤ) → ((m : ℕ) → nat_abs (table (length r) m) ≤ scale_of s) → Matched L (scale_of s) r (row_of table (length r))
   row_matched table small =
       let l = row_length table (length r) short in
       record {
