@@ -50,7 +50,7 @@ fn attempt<K: Kernel>(
     block: &[i64],
     image: &mut [i64],
 ) -> io::Result<()>
-    ensures { image.new ≡ image_after (meaning kernel.now) block.now image.old }
+    ensures { image.new ≡ image_after (K.meaning kernel.now) block.now image.old }
 {
     let answer = kernel.transform(block, image);
     println!(rt; "  block     {block:?}")?;

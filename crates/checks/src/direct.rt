@@ -3,7 +3,7 @@ use short::Direct;
 use std::process::Abort;
 use std::test::Fail;
 
-// The block has these bins, made by N.N products.
+// The block has these bins, made by N · N products.
 fn gives(rt: &impl Abort, block: &[i64], bins: &[i64], image: &mut [i64]) -> Result<(), Fail> {
     let count = Direct::new(block.len()).transform(block, image)?;
     assert_eq!(rt; &*image, bins);

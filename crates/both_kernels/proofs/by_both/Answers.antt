@@ -5,7 +5,7 @@ use Rattle.kernel.specs.Refusal.{answer_of, image_after}
 use Rattle.short.specs.Short.{direct, fast, fast_count}
 use Rattle.short.proofs.Alike.{same_after}
 use Rattle.both_kernels.proofs.by_both.Goals as goal
-use Rattle.std.proofs.lemmas.Bool.Decides.{Decides-eqb}
+use Rattle.std.proofs.lemmas.Bool.Decides.{Decides-int_eq}
 
 -- alike kernels write the same over the same
 agree : (N : ℕ) (r old other one two : List ℤ) → Alike (direct N).tables (fast N).tables → one ≡ image_after (direct N) r old → two ≡ image_after (fast N) r other → old ≡ other → one ≡ two
@@ -23,6 +23,6 @@ returns c =
       quick = c.transform-quick.ensures.answer ∙ ap (λ n. answer_of (fast n) r (length c.args.other.now)) fast_is;
       first = first;
       second = second;
-      equal = slice_eq-Decides Decides-eqb _ _ _ c.eq.ensures;
+      equal = slice_eq-Decides Decides-int_eq _ _ _ c.eq.ensures;
       agree = agree (length r) r _ _ _ _ c.new-2.ensures.alike first second;
     }
