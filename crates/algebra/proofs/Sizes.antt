@@ -1,6 +1,6 @@
 -- Signed 64-bit expressions over entries and readings: where the largest entry, the largest reading and their product leave room,
 -- what the machine works out is the whole number. Assumes nothing.
-use Rattle.std.proofs.Common.{◌≡◌, ℕ, zero, suc, ◌+◌, ◌*◌, ◌^◌, ◌<◌, ◌≤◌, Bool, ◌&&◌, T, eqb, ltb, leb, List, [], ◌∷◌, get_or, ℤ, pos, ◌+ℤ◌, ◌-ℤ◌, ◌*ℤ◌, neg_ℤ, nat_abs, sym, refl, ap, ◌∙◌, mul_assoc, add-mul, mul-le-mul, suc-add, one-mul, zero-add, mul-one, arith, eqb→eq, ltb→lt, leb→le, w64, SFits}
+use Rattle.std.proofs.Common.{◌≡◌, ℕ, zero, suc, ◌+◌, ◌*◌, ◌^◌, ◌<◌, ◌≤◌, Bool, ◌&&◌, T, eqb, ltb, leb, List, [], ◌∷◌, get_or, ℤ, pos, ◌-ℤ◌, neg_ℤ, nat_abs, sym, refl, ap, ◌∙◌, mul_assoc, add-mul, mul-le-mul, suc-add, one-mul, zero-add, mul-one, arith, eqb→eq, ltb→lt, leb→le, w64, SFits}
 use native.Mathlib.Nat.{mul-mul-mul_comm, pow-zero, pow-succ'}
 use Rattle.std.proofs.lemmas.Int.{ints}
 use Rattle.algebra.specs.Units.{Units}
