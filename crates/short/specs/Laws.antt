@@ -31,7 +31,7 @@ fit N count e few =
 idle : (N : ℕ) → Idle (unfit_short N)
 idle N = record { no_length = refl; no_gain = refl; no_limit = refl; no_scale = refl; no_count = refl }
 
-short_lawful : (N count : ℕ) → (is_short N ≡ true → count ≤ N * N) → Lawful (short N count)
+pub short_lawful : (N count : ℕ) → (is_short N ≡ true → count ≤ N * N) → Lawful (short N count)
 short_lawful N count few = go (is_short N) refl
   where
     go : (b : Bool) → is_short N ≡ b → Lawful (cond b (fit_short N count) (unfit_short N))
@@ -46,7 +46,7 @@ counts : T (everywhere (λ N. nat_le (fast_count N) (N * N)))
 unfolding everywhere below
 counts = tt
 
-few_products : (N : ℕ) → is_short N ≡ true → fast_count N ≤ N * N
+pub few_products : (N : ℕ) → is_short N ≡ true → fast_count N ≤ N * N
 few_products N e = leb→le (fast_count N) (N * N) (everywhere_at _ counts N e)
 
 pub fast_lawful : (N : ℕ) → Lawful (fast N)
