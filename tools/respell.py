@@ -37,7 +37,8 @@ GIVEN = {
     "row-in": "row_in_lem",
 }
 
-# Spelled by the rule: a capital inside a word, or a dash, becomes an underscore.
+# Spelled by the rule: a capital inside a word, or a dash, becomes an underscore. Names of two names (abs-add, abs-mul, abs-neg,
+# abs-sub, image-length, most-add, most-mul, pow-add, pow-one, Σ-add, Σ-neg, Σ-zero) stay as they were.
 PLAIN = """
 *ℤ-assoc *ℤ-left-comm C-is C-mirrors C-period C-size C-small L-room N-least N-most S-is S-mirrors S-period S-size S-small a-is
 addP addP-is addT addT-is all-roomy b-is bin-factor bin-is bins-are bins-from by-eq c-are c-is cosine-at cosine-bin cosine-is
@@ -53,12 +54,8 @@ short-length short-only-zeros shortLimit sine-at sine-bin sine-is sine-place sin
 sines-agree sines-are sines-keep sines-matched sines-order sizesWith slow-is small-at some-none standard-units stored-is stored-with
 sum-fits sum-is sum-parts term-is term-small third-is times-is turned-is turns-are two-is unfitFirst unfitShort unit-small
 up-to up-to-small value-at valueM valueP vanishes-is w-is whole-b whole-small word-fits word-is Σ-bound Σ-cong Σ-more Σ-none Σ-scale
-Σ-single Σ-swap
-add-term
+Σ-single Σ-swap add-term
 """.split()
-
-# Spelled by the rule already: both parts are names.
-KEPT = "abs-add abs-mul abs-neg abs-sub image-length most-add most-mul pow-add pow-one Σ-add Σ-neg Σ-zero".split()
 
 NAME = re.compile(r"[^\s(){}\[\];,.λ|@\"`]+")
 
