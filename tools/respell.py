@@ -37,7 +37,7 @@ GIVEN = {
     "row-in": "row_in_lem",
 }
 
-# Spelled by the rule: a capital inside a word, or a dash, becomes an underscore. Names of two names (abs-add, abs-mul, abs-neg,
+# Spelled by the rule: a capital inside a word, or a dash, becomes an underscore. Names of two names (abs-add, abs-mul,
 # abs-sub, image-length, most-add, most-mul, pow-add, pow-one, Σ-add, Σ-neg, Σ-zero) stay as they were.
 PLAIN = """
 *ℤ-assoc *ℤ-left-comm C-is C-mirrors C-period C-size C-small L-room N-least N-most S-is S-mirrors S-period S-size S-small a-is
