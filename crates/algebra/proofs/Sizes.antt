@@ -1,22 +1,13 @@
 -- Signed 64-bit expressions over entries and readings: where the largest entry, the largest reading and their product leave room,
 -- what the machine works out is the whole number. Assumes nothing.
-use Rattle.std.proofs.Common.{◌≡◌, ℕ, zero, suc, ◌+◌, ◌*◌, ◌^◌, ◌<◌, ◌≤◌, Bool, ◌&&◌, T, eqb, ltb, leb, List, [], ◌∷◌, get_or, ℤ, pos, ◌-ℤ◌, neg_ℤ, nat_abs, sym, refl, ap, ◌∙◌, mul_assoc, add-mul, mul-le-mul, suc-add, one-mul, zero-add, mul-one, arith, eqb→eq, ltb→lt, leb→le, w64, SFits}
+use Rattle.std.proofs.Common.{◌≡◌, ℕ, zero, suc, ◌+◌, ◌*◌, ◌^◌, ◌<◌, ◌≤◌, Bool, ◌&&◌, T, eqb, ltb, leb, List, [], ◌∷◌, get_or, ℤ, pos, nat_abs, sym, ap, ◌∙◌, add-mul, mul-le-mul, one-mul, mul-one, arith, eqb→eq, ltb→lt, leb→le, w64, SFits}
 use native.Mathlib.Nat.{mul-mul-mul_comm, pow-zero, pow-succ'}
-use Rattle.std.proofs.lemmas.Int.{ints}
+use Rattle.std.proofs.lemmas.Nat.{pow-add}
 use Rattle.algebra.specs.Units.{Units}
-use Rattle.algebra.proofs.Integers.{abs-add, abs-mul}
+use Rattle.algebra.proofs.Integers.{abs-add, abs-sub, abs_neg, abs-mul}
 use Rattle.algebra.proofs.Ring.{Exp, var, lit, ◌⊕◌, ◌⊖◌, ◌⊗◌, neg, ev}
 use Rattle.algebra.proofs.Tests.{both}
-use Rattle.algebra.proofs.Words.{word, word_fits, word_is, run}
-
-less : (x : ℤ) → pos 0 -ℤ x ≡ neg_ℤ x
-less x = omega (arith, ints)
-
--- the negative of a word
-pub negated : (z : ℤ) → nat_abs z < 2 ^ 63 → SFits w64 (pos 0 -ℤ word z) × (word (pos 0 -ℤ word z) ≡ neg_ℤ z)
-negated z h =
-    let small : nat_abs (neg_ℤ z) < 2 ^ 63 = omega (arith, ints) in
-    rw (word_is z h, less z) (word_fits (neg_ℤ z) small, word_is (neg_ℤ z) small)
+use Rattle.algebra.proofs.Words.{word, run, Room, worked_is, worked_stored, worked_fits}
 
 -- how large a number may be: so many times the largest entry of a table to a degree times the largest reading to a degree
 pub record Size : Type 0 where
@@ -57,18 +48,8 @@ roomy β (a ⊖ b) = (roomy β a && roomy β b) && (addable (size β a) (size β
 roomy β (a ⊗ b) = (roomy β a && roomy β b) && modest (size β (a ⊗ b))
 roomy β (neg a) = roomy β a && modest (size β a)
 
-abs-sub : (x y : ℤ) → nat_abs (x -ℤ y) ≤ nat_abs x + nat_abs y
-abs-sub x y = omega (arith, ints)
-
-abs_neg : (x : ℤ) → nat_abs (neg_ℤ x) ≡ nat_abs x
-abs_neg x = omega (arith, ints)
-
 pow-one : (b : ℕ) → b ^ 1 ≡ b
 pow-one b = pow-succ' b 0 ∙ rw (pow-zero, mul-one)
-
-pow-add : (b m n : ℕ) → b ^ (m + n) ≡ b ^ m * b ^ n
-pow-add b zero n = rw (zero-add, pow-zero, one-mul)
-pow-add b (suc m) n = rw (suc-add, pow-succ' b (m + n), pow-succ' b m, pow-add b m n, mul_assoc)
 
 module _ (g L : ℕ) where
   -- the largest size
@@ -160,20 +141,21 @@ module _ (g L : ℕ) where
       pub below : (e : Exp) → T (roomy β e) → nat_abs (ev ρ e) < 2 ^ 63
       below e t = omega (arith, sized e t, most_small (size β e) (modest_last e t))
 
-      stored : (e : Exp) → T (roomy β e) → run ρ e ≡ ev ρ e → word (run ρ e) ≡ ev ρ e
-      stored e t q = rw q (word_is (ev ρ e) (below e t))
+      room : Room ρ (λ e. T (roomy β e))
+      room = record {
+        below = below;
+        sum = λ a b t. (sum_parts a b _ t).0;
+        difference = λ a b t. (sum_parts a b _ t).0;
+        product = λ a b t. (product_parts a b _ t).0;
+        negative = λ a t. (both (roomy β a) _ t).0;
+      }
 
       -- what the machine works out is the whole number, before it is stored and after, and it fits
       pub run_is : (e : Exp) → T (roomy β e) → run ρ e ≡ ev ρ e
-      run_is (var i) t = refl
-      run_is (lit c) t = refl
-      run_is (a ⊕ b) t = let p = (sum_parts a b _ t).0 in rw (stored a p.0 (run_is a p.0), stored b p.1 (run_is b p.1))
-      run_is (a ⊖ b) t = let p = (sum_parts a b _ t).0 in rw (stored a p.0 (run_is a p.0), stored b p.1 (run_is b p.1))
-      run_is (a ⊗ b) t = let p = (product_parts a b _ t).0 in rw (stored a p.0 (run_is a p.0), stored b p.1 (run_is b p.1))
-      run_is (neg a) t = let p = (both (roomy β a) _ t).0 in rw (stored a p (run_is a p)) (less (ev ρ a))
+      run_is = worked_is room
 
       pub stored_is : (e : Exp) → T (roomy β e) → word (run ρ e) ≡ ev ρ e
-      stored_is e t = stored e t (run_is e t)
+      stored_is = worked_stored room
 
       pub run_fits : (e : Exp) → T (roomy β e) → SFits w64 (run ρ e)
-      run_fits e t = rw (run_is e t) (word_fits (ev ρ e) (below e t))
+      run_fits = worked_fits room

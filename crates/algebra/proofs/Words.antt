@@ -1,9 +1,9 @@
 -- Signed 64-bit expressions: where sizes leave room at every step, what the machine works out is the whole number.
 -- Assumes nothing.
-use Rattle.std.proofs.Common.{◌≡◌, ℕ, zero, suc, ◌+◌, ◌*◌, ◌^◌, ◌<◌, ◌≤◌, Bool, ◌&&◌, T, ltb, List, [], ◌∷◌, get_or, ℤ, pos, ◌+ℤ◌, ◌-ℤ◌, ◌*ℤ◌, neg_ℤ, nat_abs, sym, refl, ◌∙◌, mul-le-mul, arith, lit≤, ltb→lt, w64, SFits, to_z, of_z}
+use Rattle.std.proofs.Common.{◌≡◌, ℕ, zero, suc, ◌+◌, ◌*◌, ◌^◌, ◌<◌, ◌≤◌, Bool, ◌&&◌, T, ltb, List, [], ◌∷◌, get_or, ℤ, pos, ◌+ℤ◌, ◌-ℤ◌, ◌*ℤ◌, nat_abs, sym, refl, ◌∙◌, mul-le-mul, arith, lit≤, ltb→lt, w64, SFits, to_z, of_z}
 use Rattle.std.proofs.lemmas.Int.{ints, to_z-of_z}
 use Rattle.algebra.specs.Sums.{Σ}
-use Rattle.algebra.proofs.Integers.{abs-add, abs-mul}
+use Rattle.algebra.proofs.Integers.{abs-add, abs-sub, abs_neg, abs-mul, zero-sub}
 use Rattle.algebra.proofs.Ring.{Exp, var, lit, ◌⊕◌, ◌⊖◌, ◌⊗◌, neg, ev}
 use Rattle.algebra.proofs.Sums.{Σ_more, Σ_bound}
 use Rattle.algebra.proofs.Tests.{both}
@@ -26,6 +26,33 @@ run ρ (a ⊕ b) = word (run ρ a) +ℤ word (run ρ b)
 run ρ (a ⊖ b) = word (run ρ a) -ℤ word (run ρ b)
 run ρ (a ⊗ b) = word (run ρ a) *ℤ word (run ρ b)
 run ρ (neg a) = pos 0 -ℤ word (run ρ a)
+
+-- which expressions are fine: where one is, its parts are, and its value has room in a word
+pub record Room (ρ : List ℤ) (Fine : Exp → Type 0) : Type 0 where
+  pub below : (e : Exp) → Fine e → nat_abs (ev ρ e) < 2 ^ 63
+  pub sum : (a b : Exp) → Fine (a ⊕ b) → Fine a × Fine b
+  pub difference : (a b : Exp) → Fine (a ⊖ b) → Fine a × Fine b
+  pub product : (a b : Exp) → Fine (a ⊗ b) → Fine a × Fine b
+  pub negative : (a : Exp) → Fine (neg a) → Fine a
+
+-- what the machine works out of a fine expression is the whole number, before it is stored and after, and it fits
+module _ {ρ : List ℤ} {Fine : Exp → Type 0} (room : Room ρ Fine) where
+  stored : (e : Exp) → Fine e → run ρ e ≡ ev ρ e → word (run ρ e) ≡ ev ρ e
+  stored e t q = rw q (word_is (ev ρ e) (room.below e t))
+
+  pub worked_is : (e : Exp) → Fine e → run ρ e ≡ ev ρ e
+  worked_is (var i) t = refl
+  worked_is (lit c) t = refl
+  worked_is (a ⊕ b) t = let p = room.sum a b t in rw (stored a p.0 (worked_is a p.0), stored b p.1 (worked_is b p.1))
+  worked_is (a ⊖ b) t = let p = room.difference a b t in rw (stored a p.0 (worked_is a p.0), stored b p.1 (worked_is b p.1))
+  worked_is (a ⊗ b) t = let p = room.product a b t in rw (stored a p.0 (worked_is a p.0), stored b p.1 (worked_is b p.1))
+  worked_is (neg a) t = let p = room.negative a t in rw (stored a p (worked_is a p)) (zero-sub (ev ρ a))
+
+  pub worked_stored : (e : Exp) → Fine e → word (run ρ e) ≡ ev ρ e
+  worked_stored e t = stored e t (worked_is e t)
+
+  pub worked_fits : (e : Exp) → Fine e → SFits w64 (run ρ e)
+  worked_fits e t = rw (worked_is e t) (word_fits (ev ρ e) (room.below e t))
 
 -- a bound of its size, from bounds of the variables
 abbrev pub size : List ℕ → Exp → ℕ
@@ -59,15 +86,6 @@ Bounded_at (x ∷ ρ) [] h i = absurd h
 Bounded_at (x ∷ ρ) (b ∷ β) h zero = h.0
 Bounded_at (x ∷ ρ) (b ∷ β) h (suc i) = Bounded_at ρ β h.1 i
 
-abs-sub : (x y : ℤ) → nat_abs (x -ℤ y) ≤ nat_abs x + nat_abs y
-abs-sub x y = omega (arith, ints)
-
-abs_neg : (x : ℤ) → nat_abs (neg_ℤ x) ≡ nat_abs x
-abs_neg x = omega (arith, ints)
-
-less : (x : ℤ) → pos 0 -ℤ x ≡ neg_ℤ x
-less x = omega (arith, ints)
-
 module _ (ρ : List ℤ) (β : List ℕ) (h : Bounded ρ β) where
   small : (e : Exp) → nat_abs (ev ρ e) ≤ size β e
   small (var i) = Bounded_at ρ β h i
@@ -91,23 +109,24 @@ module _ (ρ : List ℤ) (β : List ℕ) (h : Bounded ρ β) where
   parts : (a b : Exp) (c : Bool) → T ((roomy β a && roomy β b) && c) → T (roomy β a) × T (roomy β b)
   parts a b c t = both (roomy β a) (roomy β b) (both (roomy β a && roomy β b) c t).0
 
-  stored : (e : Exp) → T (roomy β e) → run ρ e ≡ ev ρ e → word (run ρ e) ≡ ev ρ e
-  stored e t q = rw q (word_is (ev ρ e) (below e t))
+  room : Room ρ (λ e. T (roomy β e))
+  room = record {
+    below = below;
+    sum = λ a b. parts a b _;
+    difference = λ a b. parts a b _;
+    product = λ a b. parts a b _;
+    negative = λ a t. (both (roomy β a) _ t).0;
+  }
 
   -- what the machine works out is the whole number, before it is stored and after, and it fits
   pub run_is : (e : Exp) → T (roomy β e) → run ρ e ≡ ev ρ e
-  run_is (var i) t = refl
-  run_is (lit c) t = refl
-  run_is (a ⊕ b) t = let p = parts a b _ t in rw (stored a p.0 (run_is a p.0), stored b p.1 (run_is b p.1))
-  run_is (a ⊖ b) t = let p = parts a b _ t in rw (stored a p.0 (run_is a p.0), stored b p.1 (run_is b p.1))
-  run_is (a ⊗ b) t = let p = parts a b _ t in rw (stored a p.0 (run_is a p.0), stored b p.1 (run_is b p.1))
-  run_is (neg a) t = let p = (both (roomy β a) _ t).0 in rw (stored a p (run_is a p)) (less (ev ρ a))
+  run_is = worked_is room
 
   pub stored_is : (e : Exp) → T (roomy β e) → word (run ρ e) ≡ ev ρ e
-  stored_is e t = stored e t (run_is e t)
+  stored_is = worked_stored room
 
   pub run_fits : (e : Exp) → T (roomy β e) → SFits w64 (run ρ e)
-  run_fits e t = rw (run_is e t) (word_fits (ev ρ e) (below e t))
+  run_fits = worked_fits room
 
 -- one term more of a sum whose terms leave room for all of them
 pub add_term : (n B : ℕ) (f : ℕ → ℤ) → n * B < 2 ^ 63 → ((i : ℕ) → i < n → nat_abs (f i) ≤ B)

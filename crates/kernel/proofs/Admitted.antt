@@ -1,9 +1,9 @@
 -- What holds of a block and an image that nothing refuses. Assumes nothing.
-use Rattle.std.proofs.Common.{◌≡◌, ℕ, zero, suc, ◌+◌, ◌<◌, ◌≤◌, Bool, true, false, cond, leb, List, [], ◌∷◌, length, get_or, ℤ, pos, nat_abs, Some, None, Ok, Option, refl, arith}
-use Rattle.std.specs.List.{prefix_len}
+use Rattle.std.proofs.Common.{◌≡◌, ℕ, ◌<◌, ◌≤◌, leb, List, length, ℤ, pos, nat_abs, Some, None, Ok, Option, refl, arith}
 use Rattle.std.specs.Option.{option_map}
 use Rattle.std.proofs.lemmas.Bool.{leb-true}
 use Rattle.std.proofs.lemmas.Bool.Decides.{nat_tests}
+use Rattle.std.proofs.lemmas.List.Sums.{prefix_len_passes}
 use Rattle.kernel.specs.declared.fault.Layer.{Layer}
 use Rattle.kernel.specs.declared.fault.Unfit.{Unfit}
 use Rattle.kernel.specs.declared.told.Told.{Told}
@@ -17,25 +17,10 @@ pub record Admitted (t : Told) (r : List ℤ) (k : ℕ) : Type 0 where
   pub image : k ≡ t.length
   pub readings : (i : ℕ) → i < length r → nat_abs (reading r i) ≤ t.limit
 
--- where all of a list passes, each of its elements does
-leading_passes : {X : Type 0} (p : X → Bool) (xs : List X) (d : X) → length xs ≤ prefix_len p xs → (i : ℕ) → i < length xs → p (get_or xs i d) ≡ true
-leading_passes p [] d h i l = absurd (omega arith)
-leading_passes p (x ∷ xs) d h i l =
-    elim (p x) as (λ b. p x ≡ b → length (x ∷ xs) ≤ cond b (1 + prefix_len p xs) 0 → p (get_or (x ∷ xs) i d) ≡ true) [
-      | true ↦ λ e g.
-          elim i as (λ j. j < length (x ∷ xs) → p (get_or (x ∷ xs) j d) ≡ true) [
-            | zero ↦ λ _. e
-            | suc j ↦ λ m. leading_passes p xs d (omega arith) j (omega arith)
-          ]
-          l
-      | false ↦ λ e g. absurd (omega arith)
-    ]
-    refl h
-
 pub none_above : (limit : ℕ) (r : List ℤ) → first_above limit r ≡ None → (i : ℕ) → i < length r → nat_abs (reading r i) ≤ limit
 none_above limit r e i l =
     let h : length r ≤ within limit r = grind (arith, nat_tests) in
-    leb-true _ _ (leading_passes (λ x. leb (nat_abs x) limit) r (pos 0) h i l)
+    leb-true _ _ (prefix_len_passes (λ x. leb (nat_abs x) limit) r i (pos 0) (omega arith))
 
 pub some_none : {X : Type 0} {x : X} → Some x ≡ None → ⊥
 some_none e = let z : ◌≡◌ {A = ℕ} 0 1 = cc in omega arith

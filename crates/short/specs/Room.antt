@@ -32,7 +32,7 @@ pub record Ready (s : Scale) (L : ℕ) (r cosines sines : List ℤ) : Type 0 whe
   pub cosines_matched : Matched L (scale_of s) r cosines
   pub sines_matched : Matched L (scale_of s) r sines
 
--- and the sizes leave room for what is worked out from hundreds of entries and readings
+-- rows that are ready, and sizes that leave room for what is worked out from hundreds of entries and readings
 pub record Supplied (s : Scale) (L : ℕ) (r cosines sines : List ℤ) : Type 0 where
   pub ready : Ready s L r cosines sines
   pub units : Units (scale_of s) L

@@ -2,7 +2,7 @@ ghost use Rattle.std.specs.Prelude.{◌≡◌, ◌+◌, ◌*◌, ◌%◌, ◌<�
 ghost use Rattle.algebra.specs.Sums.{Σ};
 ghost use Rattle.kernel.specs.Bins.{reading, bin, image as image_of};
 ghost use Rattle.short.specs.Room.{Small, Matched, Ready};
-ghost use Rattle.short.specs.Short.{direct, short_limit};
+ghost use Rattle.short.specs.Short.{direct, direct_length, short_limit};
 ghost use Rattle.tables.specs.declared.scale.Scale.TheVariants.{Standard};
 ghost use Rattle.tables.specs.Entries.{scale_of, is_short, tables_of};
 ghost use Rattle.short.specs.Laws.{direct_lawful};
@@ -21,7 +21,7 @@ pub struct Direct {
 impl Direct {
     // The direct kernel of a length: any may be given, and 3 to 9 are fit.
     pub fn new(length: usize) -> Direct
-        ensures { result.length ≡ length }
+        ensures { direct_length result ≡ length }
     {
         Direct { length }
     }
@@ -84,9 +84,9 @@ fn bins(block: &[i64], image: &mut [i64]) -> usize
 }
 
 impl Kernel for Direct {
-    ghost meaning = { λ k. direct k.length };
+    ghost meaning = { λ k. direct (direct_length k) };
 
-    ghost lawful = { λ k. direct_lawful k.length };
+    ghost lawful = { λ k. direct_lawful (direct_length k) };
 
     fn tell(&self) -> Told {
         if is_short(self.length) {

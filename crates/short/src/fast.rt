@@ -2,7 +2,7 @@ ghost use Rattle.std.specs.Prelude.{◌≡◌, length as size};
 ghost use Rattle.kernel.specs.Bins.{Alike, image as image_of};
 ghost use Rattle.short.specs.Algorithms.{length_of, Chosen};
 ghost use Rattle.short.specs.Room.{Small};
-ghost use Rattle.short.specs.Short.{short_limit, direct, fast, fast_count};
+ghost use Rattle.short.specs.Short.{short_limit, direct, fast, fast_count, fast_length};
 ghost use Rattle.tables.specs.declared.scale.Scale.TheVariants.{Standard};
 ghost use Rattle.tables.specs.Entries.{tables_of};
 ghost use Rattle.short.specs.Laws.{fast_lawful};
@@ -22,7 +22,7 @@ pub struct Fast {
 impl Fast {
     // The fast kernel of a length: any may be given, and 3 to 9 are fit. It is alike to the direct kernel of that length.
     pub fn new(length: usize) -> Fast
-        ensures length { result.length ≡ length }
+        ensures length { fast_length result ≡ length }
         ensures alike { Alike (direct length).tables (fast length).tables }
     {
         Fast { length }
@@ -84,9 +84,9 @@ impl Algorithm {
 }
 
 impl Kernel for Fast {
-    ghost meaning = { λ k. fast k.length };
+    ghost meaning = { λ k. fast (fast_length k) };
 
-    ghost lawful = { λ k. fast_lawful k.length };
+    ghost lawful = { λ k. fast_lawful (fast_length k) };
 
     fn tell(&self) -> Told {
         match Algorithm::of(self.length) {

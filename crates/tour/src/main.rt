@@ -2,7 +2,7 @@
 
 ghost use Rattle.std.specs.Prelude.{◌≡◌, IfOk};
 ghost use Rattle.kernel.specs.Refusal.{image_after};
-ghost use Rattle.short.specs.Short.{direct};
+ghost use Rattle.short.specs.Short.{direct, direct_length};
 
 use kernel::{Kernel, KernelFault};
 use short::Direct;
@@ -19,7 +19,7 @@ fn show_fault(rt: &HostRuntime, word: &str, fault: KernelFault) -> io::Result<()
 
 // Transforms a block by the kernel and prints what came of it. The image is then the block's, also where printing fails.
 fn show(rt: &HostRuntime, kernel: &Direct, block: &[i64], image: &mut [i64]) -> io::Result<()>
-    ensures { image.new ≡ image_after (direct kernel.now.length) block.now image.old }
+    ensures { image.new ≡ image_after (direct (direct_length kernel.now)) block.now image.old }
 {
     let answer = kernel.transform(block, image);
     println!(rt; "  block     {block:?}")?;
@@ -31,7 +31,7 @@ fn show(rt: &HostRuntime, kernel: &Direct, block: &[i64], image: &mut [i64]) -> 
 
 // Makes the direct kernel of a length, and prints what it tells.
 fn make(rt: &HostRuntime, length: usize) -> io::Result<Direct>
-    ensures { IfOk result (λ k. k.length ≡ length) }
+    ensures { IfOk result (λ k. direct_length k ≡ length) }
 {
     let kernel = Direct::new(length);
     let told = kernel.tell();
