@@ -1,29 +1,21 @@
 -- What holds of a block and an image that nothing refuses. Assumes nothing.
-use Rattle.std.proofs.Common.{◌≡◌, ℕ, ◌<◌, ◌≤◌, leb, List, length, ℤ, pos, nat_abs, Some, None, Ok, Option, refl, arith}
+use Rattle.std.proofs.Common.{◌≡◌, ℕ, ◌<◌, ◌≤◌, List, length, ℤ, nat_abs, Some, None, Ok, Option, sym, refl, arith}
 use Rattle.std.specs.Option.{option_map}
-use Rattle.std.proofs.lemmas.Bool.{leb-true}
 use Rattle.std.proofs.lemmas.Bool.Decides.{nat_tests}
-use Rattle.std.proofs.lemmas.List.Sums.{prefix_len_passes}
+use Rattle.std.proofs.lemmas.Option.{none-some}
 use Rattle.kernel.specs.declared.fault.Layer.{Layer}
 use Rattle.kernel.specs.declared.fault.Unfit.{Unfit}
 use Rattle.kernel.specs.declared.told.Told.{Told}
 use Rattle.kernel.specs.Bins.{reading}
 use Rattle.kernel.specs.declared.fault.KernelFault.TheVariants.{Reading}
-use Rattle.kernel.specs.Refusal.{within, first_above, misfit, unfit_first, refused, answered}
+use Rattle.kernel.proofs.First.{none_above}
+use Rattle.kernel.specs.Refusal.{first_above, misfit, unfit_first, refused, answered}
 
 pub record Admitted (t : Told) (r : List ℤ) (k : ℕ) : Type 0 where
   pub fit : t.fault ≡ None
   pub block : length r ≡ t.length
   pub image : k ≡ t.length
   pub readings : (i : ℕ) → i < length r → nat_abs (reading r i) ≤ t.limit
-
-pub none_above : (limit : ℕ) (r : List ℤ) → first_above limit r ≡ None → (i : ℕ) → i < length r → nat_abs (reading r i) ≤ limit
-none_above limit r e i l =
-    let h : length r ≤ within limit r = grind (arith, nat_tests) in
-    leb-true _ _ (prefix_len_passes (λ x. leb (nat_abs x) limit) r i (pos 0) (omega arith))
-
-pub some_none : {X : Type 0} {x : X} → Some x ≡ None → ⊥
-some_none e = let z : ◌≡◌ {A = ℕ} 0 1 = cc in omega arith
 
 -- a call that answers Ok was not refused
 pub not_refused : {X F : Type 0} (x y : X) (o : Option F) → Ok y ≡ answered x o → o ≡ None
@@ -38,7 +30,7 @@ pub admitted : (t : Told) (layer : Layer) (r : List ℤ) (k : ℕ) → refused t
 admitted t layer r k e = go t.fault refl e
   where
     go : (f : Option Unfit) → t.fault ≡ f → unfit_first f (misfit layer t.length t.limit r k) ≡ None → Admitted t r k
-    go (Some f) p q = absurd (some_none q)
+    go (Some f) p q = absurd (none-some _ (sym q))
     go None p q =
         let block : length r ≡ t.length = grind (arith, nat_tests) in
         let image : k ≡ t.length = grind (arith, nat_tests) in

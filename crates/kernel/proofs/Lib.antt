@@ -1,4 +1,5 @@
 pub mod Factor
+pub mod First
 pub mod Admitted
 pub mod Image
 pub mod Alike

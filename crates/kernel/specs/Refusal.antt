@@ -1,6 +1,6 @@
 -- Why a transform is refused, in the order of the checks; and the number, place and layer of each fault. Assumes nothing.
-use Rattle.std.specs.Prelude.{ℕ, cond, List, length, ℤ, Some, None, Ok, Err, Option, Result, ◌==◌, nat_le, nat_lt, unsigned_abs}
-use Rattle.std.specs.List.{prefix_len}
+use Rattle.std.specs.Prelude.{ℕ, cond, List, length, ℤ, Some, None, Ok, Err, Option, Result, ◌==◌, nat_lt, unsigned_abs}
+use Rattle.std.specs.List.{position}
 use Rattle.std.specs.Option.{option_map}
 use Rattle.kernel.specs.declared.fault.Layer.{Layer}
 use Rattle.kernel.specs.declared.fault.Layer.TheVariants as at
@@ -8,18 +8,14 @@ use Rattle.kernel.specs.declared.fault.Unfit.{Unfit as Unfitness}
 use Rattle.kernel.specs.declared.fault.Unfit.TheVariants.{NoShortKernel, SharedDivisor, TooLong, TooMuchGain}
 use Rattle.kernel.specs.declared.fault.KernelFault.{KernelFault}
 use Rattle.kernel.specs.declared.fault.KernelFault.TheVariants.{Unfit, BlockLength, ImageLength, Reading}
-use Rattle.kernel.specs.declared.fault.Code.{Code}
+use Rattle.kernel.specs.declared.code.Code.{Code}
 use Rattle.kernel.specs.declared.told.Told.{Told}
 use Rattle.kernel.specs.Bins.{image}
 use Rattle.kernel.specs.Meaning.{Meaning, told}
 
--- how many readings stand before the first that is larger in size than the limit
-abbrev pub within : ℕ → List ℤ → ℕ
-within limit r = prefix_len (λ x. nat_le (unsigned_abs x) limit) r
-
 -- the index of the first reading that is larger in size than the limit
 abbrev pub first_above : ℕ → List ℤ → Option ℕ
-first_above limit r = cond (nat_lt (within limit r) (length r)) (Some (within limit r)) None
+first_above limit r = position (λ x. nat_lt limit (unsigned_abs x)) r
 
 -- what refuses a block, and an image of length k, of a fit kernel: the block's length, the image's, the first reading above
 -- the limit

@@ -22,7 +22,7 @@ impl Told {
         ensures { result ≡ answered tt (refused self.now layer block.now room) }
     {
         if let Some(unfit) = self.fault {
-            return Err(KernelFault::Unfit(unfit));
+            return Err(unfit.into());
         }
         if block.len() != self.length {
             return Err(KernelFault::BlockLength(layer, block.len() as u64));

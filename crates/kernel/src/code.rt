@@ -1,26 +1,33 @@
 ghost use Rattle.std.specs.Prelude.{◌≡◌};
 ghost use Rattle.kernel.specs.Refusal.{letter_of, code_of};
 
-use crate::fault::{Code, KernelFault, Layer, Unfit};
+use crate::fault::{KernelFault, Layer, Unfit};
+use std::fmt;
 
-impl Layer {
-    // The letter of the layer.
-    pub fn letter(self) -> char
-        ensures { result ≡ letter_of self }
-    {
-        match self {
+// What a fault tells a person or a program: its number, its place and the letter of the layer where it arose.
+#[derive(Clone, Copy, PartialEq, Eq, Debug)]
+pub struct Code {
+    pub number: u8,
+    pub place: u64,
+    pub letter: char,
+}
+
+impl From<Layer> for char {
+    ghost from_gives = { λ layer letter. letter ≡ letter_of layer };
+
+    fn from(layer: Layer) -> char {
+        match layer {
             Layer::Short => 'k',
             Layer::Product => 'p',
         }
     }
 }
 
-impl KernelFault {
-    // The fault's number, place and letter.
-    pub fn code(self) -> Code
-        ensures { result ≡ code_of self }
-    {
-        let (number, place, layer) = match self {
+impl From<KernelFault> for Code {
+    ghost from_gives = { λ fault code. code ≡ code_of fault };
+
+    fn from(fault: KernelFault) -> Code {
+        let (number, place, layer) = match fault {
             KernelFault::Unfit(Unfit::NoShortKernel(length)) => (1, length, Layer::Short),
             KernelFault::Unfit(Unfit::SharedDivisor(divisor)) => (2, divisor, Layer::Product),
             KernelFault::Unfit(Unfit::TooLong(length)) => (3, length, Layer::Product),
@@ -32,7 +39,17 @@ impl KernelFault {
         Code {
             number,
             place,
-            letter: layer.letter(),
+            letter: layer.into(),
         }
+    }
+}
+
+impl fmt::Display for Code {
+    fn fmt<W: fmt::Write>(&self, f: &mut fmt::Formatter<W>) -> fmt::Result {
+        write!(
+            f,
+            "number {}, place {}, layer {}",
+            self.number, self.place, self.letter
+        )
     }
 }

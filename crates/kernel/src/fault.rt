@@ -1,3 +1,10 @@
+ghost use Rattle.std.specs.Prelude.{◌≡◌};
+ghost use Rattle.kernel.specs.declared.fault.KernelFault.TheVariants.{Unfit as UnfitFault};
+
+use crate::code::Code;
+use std::error::Error;
+use std::fmt;
+
 // The layer where a kernel's fault arose.
 #[derive(Clone, Copy, PartialEq, Eq, Debug)]
 pub enum Layer {
@@ -31,10 +38,26 @@ pub enum KernelFault {
     Reading(Layer, u64),
 }
 
-// What a fault tells a person or a program: its number, its place and the letter of the layer where it arose.
-#[derive(Clone, Copy)]
-pub struct Code {
-    pub number: u8,
-    pub place: u64,
-    pub letter: char,
+impl From<Unfit> for KernelFault {
+    ghost from_gives = { λ unfit fault. fault ≡ UnfitFault unfit };
+
+    fn from(unfit: Unfit) -> KernelFault {
+        KernelFault::Unfit(unfit)
+    }
 }
+
+impl fmt::Display for Unfit {
+    fn fmt<W: fmt::Write>(&self, f: &mut fmt::Formatter<W>) -> fmt::Result {
+        KernelFault::from(*self).fmt(f)
+    }
+}
+
+impl fmt::Display for KernelFault {
+    fn fmt<W: fmt::Write>(&self, f: &mut fmt::Formatter<W>) -> fmt::Result {
+        Code::from(*self).fmt(f)
+    }
+}
+
+impl Error for Unfit {}
+
+impl Error for KernelFault {}

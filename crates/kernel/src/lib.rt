@@ -8,6 +8,7 @@ pub mod kernel;
 pub mod told;
 
 pub use admit::first_above;
-pub use fault::{Code, KernelFault, Layer, Unfit};
+pub use code::Code;
+pub use fault::{KernelFault, Layer, Unfit};
 pub use kernel::Kernel;
 pub use told::Told;

@@ -1,7 +1,10 @@
+ghost use Rattle.std.specs.Prelude.{◌≡◌};
+
 use crate::fault::Unfit;
+use std::fmt;
 
 // What a kernel tells of itself: 0 for each figure where it is unfit.
-#[derive(Clone, Copy)]
+#[derive(Clone, Copy, PartialEq, Eq, Debug, Default)]
 pub struct Told {
     pub fault: Option<Unfit>,
     pub length: usize,
@@ -9,4 +12,30 @@ pub struct Told {
     pub limit: u64,
     pub scale: u64,
     pub count: usize,
+}
+
+impl From<Unfit> for Told {
+    ghost use Rattle.kernel.specs.Meaning.{told_unfit};
+
+    ghost from_gives = { λ unfit told. told ≡ told_unfit unfit };
+
+    fn from(unfit: Unfit) -> Told {
+        Told {
+            fault: Some(unfit),
+            ..Told::default()
+        }
+    }
+}
+
+impl fmt::Display for Told {
+    fn fmt<W: fmt::Write>(&self, f: &mut fmt::Formatter<W>) -> fmt::Result {
+        match self.fault {
+            Some(unfit) => unfit.fmt(f),
+            None => write!(
+                f,
+                "gain {}, limit {}, scale {}, {} products",
+                self.gain, self.limit, self.scale, self.count
+            ),
+        }
+    }
 }

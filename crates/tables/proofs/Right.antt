@@ -4,8 +4,10 @@ use lib.Signed.{lt_z, lt_z_yes}
 use Rattle.algebra.proofs.Tests.{below, below_at, eq_z, eq_z_is}
 use Rattle.tables.specs.declared.scale.Scale.{Scale}
 use Rattle.tables.specs.declared.scale.Scale.TheVariants.{Standard, Fine}
+use Rattle.tables.specs.declared.table.Table.{Table}
+use Rattle.tables.specs.declared.table.Table.TheVariants.{Cosines, Sines}
 use Rattle.tables.specs.Entries.{scale_of, is_short, C, S}
-use Rattle.tables.specs.Rule.{Rule, halves, root, value, Obeys, cosine_rules, sine_rules, rule_at, RightCosines, RightSines}
+use Rattle.tables.specs.Rule.{Rule, halves, root, value, Obeys, cosine_rules, sine_rules, rule_at, RightCosines, RightSines, Right}
 use Rattle.tables.proofs.Lengths.{everywhere, everywhere_at}
 
 abbrev obeys : ℕ → Rule → ℤ → Bool
@@ -71,3 +73,7 @@ right_sines s =
       order_7 = (lt_z_yes o.1, lt_z_yes o.2);
       order_9 = (lt_z_yes o.3, lt_z_yes o.4);
     }
+
+pub right : (t : Table) (s : Scale) → Right t s
+right Cosines = right_cosines
+right Sines = right_sines

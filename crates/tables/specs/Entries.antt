@@ -5,6 +5,8 @@ use Rattle.std.specs.List.{range_with_len}
 use Rattle.kernel.specs.Bins.{Tables}
 use Rattle.tables.specs.declared.scale.Scale.{Scale}
 use Rattle.tables.specs.declared.scale.Scale.TheVariants.{Standard, Fine}
+use Rattle.tables.specs.declared.table.Table.{Table}
+use Rattle.tables.specs.declared.table.Table.TheVariants.{Cosines, Sines}
 
 -- C(0), which no entry passes in size
 abbrev pub scale_of : Scale → ℕ
@@ -75,6 +77,11 @@ C s N m = evenly N (slice_index_or (half_cosines s) N []) (m % N)
 
 unfoldable pub S : Scale → ℕ → ℕ → ℤ
 S s N m = oddly N (slice_index_or (half_sines s) N []) (m % N)
+
+-- a table's entries at a scale
+abbrev pub entries : Table → Scale → ℕ → ℕ → ℤ
+entries Cosines = C
+entries Sines = S
 
 -- both tables of a length
 abbrev pub tables_of : Scale → ℕ → Tables

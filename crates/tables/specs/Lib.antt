@@ -1,4 +1,3 @@
 pub mod Entries
-pub mod Inner
 pub mod Laws
 pub mod Rule

@@ -1,6 +1,8 @@
 -- The rule that says which whole number an entry is. Assumes nothing.
 use Rattle.std.specs.Prelude.{◌≡◌, ℕ, ◌+◌, ◌*◌, ◌^◌, ◌<◌, ◌≤◌, true, List, [], ◌∷◌, length, ℤ, pos, ◌+ℤ◌, ◌-ℤ◌, ◌*ℤ◌, ◌<ℤ◌, slice_index_or}
 use Rattle.tables.specs.declared.scale.Scale.{Scale}
+use Rattle.tables.specs.declared.table.Table.{Table}
+use Rattle.tables.specs.declared.table.Table.TheVariants.{Cosines, Sines}
 use Rattle.tables.specs.Entries.{scale_of, is_short, neg, C, S}
 
 -- an entry is so many halves of the scale, or half the scale times a root of a polynomial, whose coefficients stand from the
@@ -99,3 +101,8 @@ pub record RightSines (s : Scale) : Type 0 where
   pub order_5 : S s 5 2 <ℤ S s 5 1
   pub order_7 : (S s 7 1 <ℤ S s 7 2) × (S s 7 3 <ℤ S s 7 1)
   pub order_9 : (S s 9 1 <ℤ S s 9 2) × (S s 9 4 <ℤ S s 9 1)
+
+-- every entry of the table is right
+abbrev pub Right : Table → Scale → Type 0
+Right Cosines = RightCosines
+Right Sines = RightSines
