@@ -6,7 +6,8 @@ use borrow.Author.Differences.{ints}
 use Rattle.algebra.specs.Sums.{Σ}
 use Rattle.algebra.proofs.Ring.{ring, var, ◌⊗◌}
 use Rattle.algebra.proofs.Sums.{Σ_cong, Σ_none, Σ_swap, Σ_scale, Σ_single}
-use Rattle.algebra.proofs.Tests.{below, below_at, eq_z, eq_z_is}
+use Rattle.std.specs.Ordering.{int_eq}
+use Rattle.algebra.proofs.Tests.{below, below_at, int_eq_is}
 
 -- d on the diagonal, 0 elsewhere
 abbrev unit : ℕ → ℕ → ℕ → ℤ
@@ -14,7 +15,7 @@ unit d j k = cond (eqb j k) (pos d) (pos 0)
 
 -- the product of the matrices M and R is d + 1 times the unit matrix
 unfoldable pub inverts : ℕ → (ℕ → ℕ → ℤ) → (ℕ → ℕ → ℤ) → ℕ → Bool
-inverts N R M d = below N (λ j. below N (λ k. eq_z (Σ N (λ n. M j n *ℤ R n k)) (unit (suc d) j k)))
+inverts N R M d = below N (λ j. below N (λ k. int_eq (Σ N (λ n. M j n *ℤ R n k)) (unit (suc d) j k)))
 
 off : (d j k : ℕ) → k ≢ j → unit d j k ≡ pos 0
 off d j k u = go (eqb j k) refl
@@ -42,7 +43,7 @@ module _ (N : ℕ) (R M : ℕ → ℕ → ℤ) (d : ℕ) (t : T (inverts N R M d
   spread : (j k : ℕ) → j < N → k < N → r k *ℤ unit (suc d) j k ≡ Σ N (λ n. M j n *ℤ (r k *ℤ R n k))
   unfolding inverts
   spread j k l q =
-      let e = eq_z_is (Σ N (λ n. M j n *ℤ R n k)) (unit (suc d) j k) (below_at N _ (below_at N _ t j l) k q) in
+      let e = int_eq_is (Σ N (λ n. M j n *ℤ R n k)) (unit (suc d) j k) (below_at N _ (below_at N _ t j l) k q) in
       rw (← e, ← Σ_scale N (r k) (λ n. M j n *ℤ R n k))
       (Σ_cong N (λ n. r k *ℤ (M j n *ℤ R n k)) (λ n. M j n *ℤ (r k *ℤ R n k)) (λ n _. ring (r k ∷ M j n ∷ R n k ∷ []) (var 0 ⊗ (var 1 ⊗ var 2)) (var 1 ⊗ (var 0 ⊗ var 2)) tt))
 

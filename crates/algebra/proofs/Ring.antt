@@ -4,7 +4,8 @@ use Rattle.std.proofs.Common.{◌≡◌, ℕ, ◌*◌, ◌<◌, Bool, true, fals
 use lib.IntN.{*ℤ_comm, zero-*ℤ, *ℤ-zero, +ℤ_idl}
 use borrow.Author.Differences.{ints}
 use Rattle.algebra.proofs.Integers.{dist_l, dist_r, *ℤ_assoc, *ℤ_left_comm, abs-mul}
-use Rattle.algebra.proofs.Tests.{both, eq_z, eq_z_is}
+use Rattle.std.specs.Ordering.{int_eq}
+use Rattle.algebra.proofs.Tests.{both, int_eq_is}
 
 infixl 60 ◌⊕◌ ◌⊖◌
 infixl 70 ◌⊗◌
@@ -76,7 +77,7 @@ normal (neg a) = mul_t (negsuc 0) [] (normal a)
 
 abbrev pub vanishes : Poly → Bool
 vanishes nil = true
-vanishes (term c m p) = eq_z c (pos 0) && vanishes p
+vanishes (term c m p) = int_eq c (pos 0) && vanishes p
 
 by_cond : {A : Type 0} (P : A → Type 0) (b : Bool) (x y : A) → (T b → P x) → P y → P (cond b x y)
 by_cond P true x y f g = f tt
@@ -155,8 +156,8 @@ module _ (ρ : List ℤ) where
   unfolding value_p
   vanishes_is nil t = refl
   vanishes_is (term c m p) t =
-      let b = both (eq_z c (pos 0)) (vanishes p) t in
-      rw (eq_z_is c (pos 0) b.0, vanishes_is p b.1, zero-*ℤ)
+      let b = both (int_eq c (pos 0)) (vanishes p) t in
+      rw (int_eq_is c (pos 0) b.0, vanishes_is p b.1, zero-*ℤ)
 
   pub ring : (a b : Exp) → T (vanishes (normal (a ⊖ b))) → ev ρ a ≡ ev ρ b
   ring a b t =

@@ -1,7 +1,8 @@
 -- The tables keep their rule, by tests that antt computes over every entry. Assumes nothing.
 use Rattle.std.proofs.Common.{◌≡◌, ℕ, ◌+◌, ◌-◌, ◌*◌, ◌/◌, ◌≤◌, Bool, true, T, List, ℤ, pos, ◌+ℤ◌, ◌-ℤ◌, ◌*ℤ◌, arith}
 use lib.Signed.{lt_z, lt_z_yes}
-use Rattle.algebra.proofs.Tests.{below, below_at, eq_z, eq_z_is}
+use Rattle.std.specs.Ordering.{int_eq}
+use Rattle.algebra.proofs.Tests.{below, below_at, int_eq_is}
 use Rattle.tables.specs.declared.scale.Scale.{Scale}
 use Rattle.tables.specs.declared.scale.Scale.TheVariants.{Standard, Fine}
 use Rattle.tables.specs.declared.table.Table.{Table}
@@ -11,11 +12,11 @@ use Rattle.tables.specs.Rule.{Rule, halves, root, value, Obeys, cosine_rules, si
 use Rattle.tables.proofs.Lengths.{everywhere, everywhere_at}
 
 abbrev obeys : ℕ → Rule → ℤ → Bool
-obeys T (halves h) E = eq_z (pos 2 *ℤ E) (h *ℤ pos T)
+obeys T (halves h) E = int_eq (pos 2 *ℤ E) (h *ℤ pos T)
 obeys T (root p) E = lt_z (value p T (pos 2 *ℤ E -ℤ pos 1) *ℤ value p T (pos 2 *ℤ E +ℤ pos 1)) (pos 0)
 
 obeyed : (T' : ℕ) (rule : Rule) (E : ℤ) → T (obeys T' rule E) → Obeys T' rule E
-obeyed T' (halves h) E t = eq_z_is (pos 2 *ℤ E) (h *ℤ pos T') t
+obeyed T' (halves h) E t = int_eq_is (pos 2 *ℤ E) (h *ℤ pos T') t
 obeyed T' (root p) E t = lt_z_yes t
 
 -- at every place up to the half length of every short length
