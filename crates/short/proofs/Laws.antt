@@ -1,14 +1,20 @@
 -- The room that the standard tables leave, and what a short kernel admits. Assumes nothing.
-use Rattle.std.proofs.Common.{◌≡◌, ℕ, Bool, true, false, cond, List, length, ℤ, Ok, refl, subst, lit≤}
+use Rattle.std.proofs.Common.{◌≡◌, ℕ, ◌≤◌, Bool, true, false, cond, List, length, ℤ, nat_abs, Ok, sym, refl, ap, ◌∙◌, subst, lit≤}
+use Rattle.std.proofs.lemmas.Option.{none-some}
 use Rattle.algebra.specs.Units.{Units}
 use Rattle.kernel.specs.declared.fault.Layer.{Layer}
 use Rattle.kernel.specs.declared.told.Told.{Told}
 use Rattle.kernel.specs.Meaning.{told}
 use Rattle.kernel.specs.Refusal.{refused, answered}
-use Rattle.kernel.proofs.Admitted.{Admitted, admitted, not_refused, some_none}
+use Rattle.kernel.proofs.Admitted.{Admitted, admitted, not_refused}
 use Rattle.tables.specs.declared.scale.Scale.TheVariants.{Standard}
-use Rattle.tables.specs.Entries.{scale_of, is_short}
-use Rattle.short.specs.Room.{Small}
+use Rattle.tables.specs.declared.scale.Scale.{Scale}
+use Rattle.tables.specs.declared.table.Table.{Table}
+use Rattle.tables.specs.declared.table.Table.TheVariants.{Cosines, Sines}
+use Rattle.tables.specs.Entries.{scale_of, is_short, row_of, entries, C, S}
+use Rattle.tables.proofs.Laws.{short_laws}
+use Rattle.tables.proofs.Listed.{row_length, row_at}
+use Rattle.short.specs.Room.{Small, Ready}
 use Rattle.short.specs.Short.{short_limit, fit_short, unfit_short, short}
 
 pub standard_units : Units (scale_of Standard) short_limit
@@ -26,4 +32,26 @@ taken N count t layer r k y is e = go (is_short N) refl (subst (λ t. Admitted t
   where
     go : (b : Bool) → is_short N ≡ b → Admitted (told (cond b (fit_short N count) (unfit_short N))) r k → Taken N r k
     go true s a = record { short = s; block = a.block; image = a.image; readings = a.readings }
-    go false s a = absurd (some_none a.fit)
+    go false s a = absurd (none-some _ (sym a.fit))
+
+-- no entry of a table, and so none of a row, is larger in size than the scale
+pub entry_small : (t : Table) (s : Scale) (N : ℕ) → is_short N ≡ true → (m : ℕ) → nat_abs (entries t s N m) ≤ scale_of s
+entry_small Cosines s N e = (short_laws N e).C_size s
+entry_small Sines s N e = (short_laws N e).S_size s
+
+pub entries_small : (t : Table) (s : Scale) (N : ℕ) {row : List ℤ} → is_short N ≡ true → row ≡ row_of (entries t s) N → Small (scale_of s) row
+entries_small t s N {row} e is k h = rw (is, row_at (entries t s) N e k (rw (← row_length (entries t s) N e, ← is) h)) (entry_small t s N e k)
+
+-- the rows of a length, beside a block of it
+pub ready_by : {N : ℕ} {r cosines sines : List ℤ} → length r ≡ N → is_short N ≡ true → Small short_limit r → cosines ≡ row_of (C Standard) N → sines ≡ row_of (S Standard) N
+    → Ready Standard short_limit r cosines sines
+ready_by {N} {r} {cosines} {sines} whole e small c_are s_are =
+    record {
+      short = rw whole e;
+      cosines_are = rw whole c_are;
+      sines_are = rw whole s_are;
+      cosines_whole = ap length c_are ∙ row_length (C Standard) N e ∙ sym whole;
+      sines_whole = ap length s_are ∙ row_length (S Standard) N e ∙ sym whole;
+      readings = small;
+      units = standard_units;
+    }

@@ -4,5 +4,5 @@ pub mod Symbols
 pub mod Related
 pub mod Lines
 pub mod Turns
-pub mod Choice
 pub mod Alike
+pub mod Division

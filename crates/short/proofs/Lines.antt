@@ -18,13 +18,19 @@ use Rattle.tables.specs.declared.scale.Scale.{Scale}
 use Rattle.tables.specs.Entries.{scale_of, row_of, tables_of, C, S}
 use Rattle.tables.proofs.Lengths.{bounds}
 use Rattle.tables.proofs.Listed.{row_at}
-use Rattle.short.specs.Room.{Small, Ready, Supplied, Turnable, Multiple, turns}
+use Rattle.tables.specs.declared.table.Table.TheVariants.{Cosines, Sines}
+use Rattle.short.specs.Room.{Small, Ready, Turnable, Multiple, turns}
+use Rattle.short.proofs.Laws.{entries_small}
 use Rattle.short.proofs.Related.{related}
 use Rattle.short.proofs.Symbols.{firsts, inputs, Related, bin_of, equal, equal_is, bin_is}
 
 -- the count that a call answers with its result
 pub counted : {A : Type 0} {n : ℕ} {y : A} {p : ℕ × A} → p ≡ (n, y) → p.0 ≡ n
 counted is = ap (λ q. q.0) is
+
+-- a count with its bins
+pub answered : {m n : ℕ} {xs ys : List ℤ} → m ≡ n → xs ≡ ys → ◌≡◌ {A = ℕ × List ℤ} (m, xs) (n, ys)
+answered = ap₂ (λ n xs. (n, xs))
 
 pub small_at : (b : ℕ) (row : List ℤ) → Small b row → (k : ℕ) → nat_abs (reading row k) ≤ b
 small_at b row h k = elim (dec_lt k (length row)) [ yes l ↦ h k l | no l ↦ rw (get_or_past row k (pos 0) (omega arith)) (omega arith) ]
@@ -77,10 +83,7 @@ turn_of es ts n =
     ⊕ get_or es ((n + 1) % 3) (lit (pos 0)) ⊗ get_or ts 1 (lit (pos 0))
     ⊕ get_or es ((n + 2) % 3) (lit (pos 0)) ⊗ get_or ts 2 (lit (pos 0))
 
-module _ {s : Scale} {L : ℕ} {r cosines sines : List ℤ} (supplied : Supplied s L r cosines sines) where
-  ready : Ready s L r cosines sines
-  ready = supplied.ready
-
+module _ {s : Scale} {L : ℕ} {r cosines sines : List ℤ} (ready : Ready s L r cosines sines) where
   abbrev ρ : List ℤ
   ρ = inputs cosines sines r
 
@@ -88,14 +91,14 @@ module _ {s : Scale} {L : ℕ} {r cosines sines : List ℤ} (supplied : Supplied
   g = scale_of s
 
   units : Units g L
-  units = supplied.units
+  units = ready.units
 
   bounded : Bounded g L ρ sizes
   bounded =
       Bounded-append g L (firsts cosines ++ firsts sines) (firsts r) (nine (entries_of 1) ++ nine (entries_of 1)) (nine (readings_of 1))
       (Bounded-append g L (firsts cosines) (firsts sines) (nine (entries_of 1)) (nine (entries_of 1))
-      (Bounded_entries g L cosines ready.cosines_matched.entries) (Bounded_entries g L sines ready.sines_matched.entries))
-      (Bounded_readings g L r ready.cosines_matched.readings)
+      (Bounded_entries g L cosines (entries_small Cosines s (length r) ready.short ready.cosines_are)) (Bounded_entries g L sines (entries_small Sines s (length r) ready.short ready.sines_are)))
+      (Bounded_readings g L r ready.readings)
 
   -- what is worked out from the inputs alone
   pub fits : (e : Exp) → T (roomy sizes e) → SFits w64 (run ρ e)
@@ -202,7 +205,7 @@ module _ {s : Scale} {L : ℕ} {r cosines sines : List ℤ} (supplied : Supplied
         times : word (run (ρ ++ numbers ks) e) ≡ pos d *ℤ ev ρ y
         times = stored_with e room ∙ same (plug 27 (terms ks) e) (lit (pos d) ⊗ y) equals
 
-        pub divides : Multiple d (word (run (ρ ++ numbers ks) e))
+        pub divides : Multiple (pos d) (word (run (ρ ++ numbers ks) e))
         divides = record { times = ev ρ y; is = times }
 
         pub quotient_is : (z : ℤ) → 0 < d → word (run (ρ ++ numbers ks) e) ≡ pos d *ℤ z → z ≡ ev ρ y

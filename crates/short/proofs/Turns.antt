@@ -85,7 +85,7 @@ module _ {g L : ℕ} {entries weighed : List ℤ} (given : Turnable g L entries 
       thrice : word (run (ρ ++ numbers made) x) ≡ pos 3 *ℤ ev ρ y
       thrice = stored_with g L given.units ρ sizes bounded 6 refl made x room ∙ ring ρ (plug 6 (terms made) x) (lit (pos 3) ⊗ y) same
 
-      pub divides : Multiple 3 (word (run (ρ ++ numbers made) x))
+      pub divides : Multiple (pos 3) (word (run (ρ ++ numbers made) x))
       divides = record { times = ev ρ y; is = thrice }
 
       pub third_is : {z : ℤ} → word (run (ρ ++ numbers made) x) ≡ pos 3 *ℤ z → z ≡ ev ρ y

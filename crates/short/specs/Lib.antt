@@ -1,4 +1,5 @@
-pub mod Algorithms
 pub mod Room
 pub mod Short
+pub mod Kernels
+pub mod Methods
 pub mod Laws

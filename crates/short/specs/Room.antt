@@ -1,47 +1,26 @@
 -- What leaves room in a word, and what inner steps of a transform work out: for the contracts of inner functions only. Assumes nothing.
-use Rattle.std.specs.Prelude.{◌≡◌, ℕ, ◌+◌, ◌*◌, ◌%◌, ◌^◌, ◌<◌, ◌≤◌, true, List, map, length, ℤ, pos, ◌*ℤ◌, unsigned_abs}
+use Rattle.std.specs.Prelude.{◌≡◌, ℕ, ◌+◌, ◌*◌, ◌%◌, ◌<◌, ◌≤◌, true, List, map, length, ℤ, ◌*ℤ◌, unsigned_abs}
 use Rattle.std.specs.List.{range_with_len}
 use Rattle.algebra.specs.Sums.{Σ}
 use Rattle.algebra.specs.Units.{Units}
 use Rattle.kernel.specs.Bins.{reading}
 use Rattle.tables.specs.declared.scale.Scale.{Scale}
-use Rattle.tables.specs.declared.scale.Scale.TheVariants.{Standard}
 use Rattle.tables.specs.Entries.{scale_of, is_short, row_of, C, S}
-use Rattle.short.specs.Short.{short_limit}
 
 -- no number of the list is larger in size than b
 abbrev pub Small : ℕ → List ℤ → Type 0
 Small b r = (k : ℕ) → k < length r → unsigned_abs (reading r k) ≤ b
 
--- a block with readings up to L and a table's row with entries up to g, of one length up to 9: their products and the sum of
--- these have room in a word
-pub record Matched (L g : ℕ) (r row : List ℤ) : Type 0 where
-  pub lengths : length r ≡ length row
-  pub few : length r ≤ 9
-  pub L_room : L < 2 ^ 63
-  pub g_room : g < 2 ^ 63
-  pub room : L * g ≤ 2 ^ 54
-  pub readings : Small L r
-  pub entries : Small g row
-
--- the rows of cosines and of sines of the block's length, at a scale, each matched with the block
+-- a block of a short length with readings up to L, and the rows of cosines and of sines of that length at a scale: hundreds of
+-- entries, of readings and of their products have room in a word
 pub record Ready (s : Scale) (L : ℕ) (r cosines sines : List ℤ) : Type 0 where
   pub short : is_short (length r) ≡ true
   pub cosines_are : cosines ≡ row_of (C s) (length r)
   pub sines_are : sines ≡ row_of (S s) (length r)
-  pub cosines_matched : Matched L (scale_of s) r cosines
-  pub sines_matched : Matched L (scale_of s) r sines
-
--- rows that are ready, and sizes that leave room for what is worked out from hundreds of entries and readings
-pub record Supplied (s : Scale) (L : ℕ) (r cosines sines : List ℤ) : Type 0 where
-  pub ready : Ready s L r cosines sines
+  pub cosines_whole : length cosines ≡ length r
+  pub sines_whole : length sines ≡ length r
+  pub readings : Small L r
   pub units : Units (scale_of s) L
-
--- what the algorithm of length N is given: the rows of cosines and of sines, a block, and room for its image
-pub record Given (N : ℕ) (cosines sines r image : List ℤ) : Type 0 where
-  pub supplied : Supplied Standard short_limit r cosines sines
-  pub whole : length r ≡ N
-  pub room : length image ≡ N
 
 -- three entries and three numbers whose sums and products have room: up to twice the largest entry, and twice the largest reading
 pub record Turnable (g L : ℕ) (entries numbers : List ℤ) : Type 0 where
@@ -50,9 +29,9 @@ pub record Turnable (g L : ℕ) (entries numbers : List ℤ) : Type 0 where
   pub numbers_small : Small (2 * L) numbers
 
 -- d divides x
-pub record Multiple (d : ℕ) (x : ℤ) : Type 0 where
+pub record Multiple (d x : ℤ) : Type 0 where
   pub times : ℤ
-  pub is : x ≡ pos d *ℤ times
+  pub is : x ≡ d *ℤ times
 
 -- the numbers weighed by the entries, and by the entries turned by one place and by two
 unfoldable pub turns : List ℤ → List ℤ → List ℤ

@@ -3,8 +3,6 @@ use Rattle.std.specs.Prelude.{ℕ, ◌*◌, ◌^◌, cond, [], ◌∷◌, pos, S
 use Rattle.kernel.specs.declared.fault.Layer.TheVariants.{Short}
 use Rattle.kernel.specs.declared.fault.Unfit.TheVariants.{NoShortKernel}
 use Rattle.kernel.specs.Meaning.{Meaning}
-use Rattle.short.specs.declared.direct.Direct.{Direct}
-use Rattle.short.specs.declared.fast.Fast.{Fast}
 use Rattle.tables.specs.declared.scale.Scale.TheVariants.{Standard}
 use Rattle.tables.specs.Entries.{scale_of, is_short, tables_of}
 
@@ -48,10 +46,3 @@ fast_count N = slice_index (0 ∷ 0 ∷ 0 ∷ 2 ∷ 0 ∷ 5 ∷ 4 ∷ 8 ∷ 2 �
 
 abbrev pub fast : ℕ → Meaning
 fast N = short N (fast_count N)
-
--- the length that a kernel was made for, fit or not
-abbrev pub direct_length : Direct → ℕ
-direct_length kernel = kernel.length
-
-abbrev pub fast_length : Fast → ℕ
-fast_length kernel = kernel.length

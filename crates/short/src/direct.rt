@@ -1,103 +1,116 @@
-ghost use Rattle.std.specs.Prelude.{◌≡◌, ◌+◌, ◌*◌, ◌%◌, ◌<◌, ◌≤◌, true, length as size, pos, ◌*ℤ◌, slice_index_or};
+ghost use Rattle.std.specs.Prelude.{◌≡◌, ℕ, ◌+◌, ◌*◌, ◌%◌, ◌<◌, ◌≤◌, true, length as size, ◌*ℤ◌};
 ghost use Rattle.algebra.specs.Sums.{Σ};
 ghost use Rattle.kernel.specs.Bins.{reading, bin, image as image_of};
-ghost use Rattle.short.specs.Room.{Small, Matched, Ready};
-ghost use Rattle.short.specs.Short.{direct, direct_length, short_limit};
+ghost use Rattle.short.specs.Methods.{Chosen, sums_few};
 ghost use Rattle.tables.specs.declared.scale.Scale.TheVariants.{Standard};
-ghost use Rattle.tables.specs.Entries.{scale_of, is_short, tables_of};
-ghost use Rattle.short.specs.Laws.{direct_lawful};
+ghost use Rattle.tables.specs.Entries.{is_short, row_of, entries, tables_of};
 
-use crate::figures::{fit, unfit};
+use crate::inputs::Inputs;
+use crate::method::Method;
 use crate::product::product;
-use kernel::{Kernel, KernelFault, Layer, Told};
-use tables::{Scale, cosines, is_short, sines};
+use kernel::Unfit;
+use tables::{Table, is_short};
 
-// The short kernel that works the sums as they are written.
+// The sums of a short length as they are written.
 #[derive(Clone, Copy)]
-pub struct Direct {
+pub struct Sums {
     length: usize,
+    ghost short: { is_short length ≡ true },
 }
 
-impl Direct {
-    // The direct kernel of a length: any may be given, and 3 to 9 are fit.
-    pub fn new(length: usize) -> Direct
-        ensures { direct_length result ≡ length }
-    {
-        Direct { length }
-    }
-}
+impl TryFrom<usize> for Sums {
+    type Error = Unfit;
 
-// The readings times every n-th entry of the row, round its end, added up; and the count of products.
-fn weigh(block: &[i64], row: &[i64], n: usize, count: usize) -> (usize, i64)
-    requires rows { Matched short_limit (scale_of Standard) block.now row.now }
-    requires step { n < size row.now }
-    requires few { count ≤ 81 }
-    ensures { result ≡ (count + size block.now, Σ (size block.now) (λ k. reading block.now k *ℤ slice_index_or row.now (n * k % size row.now) (pos 0))) }
-{
-    let mut made = count;
-    let mut sum: i64 = 0;
-    let mut at = 0;
-    for value in block {
-        let (next, term) = product(made, *value, row[at]);
-        made = next;
-        sum += term;
-        at += n;
-        if at >= row.len() {
-            at -= row.len();
-        }
-    }
-    (made, sum)
-}
+    ghost try_from_gives = { Chosen (λ sums. sums.length) };
 
-// Bin n of the block, from the rows of its length, and the count of products.
-fn one_bin(block: &[i64], cosines: &[i64], sines: &[i64], n: usize, count: usize) -> (usize, i64)
-    requires ready { Ready Standard short_limit block.now cosines.now sines.now }
-    requires at { n < size block.now }
-    requires few { count ≤ 81 }
-    ensures { result ≡ (count + size block.now, bin (tables_of Standard (size block.now)) (reading block.now) n) }
-{
-    if n <= block.len() / 2 {
-        weigh(block, cosines, n, count)
-    } else {
-        let (made, sum) = weigh(block, sines, n, count);
-        (made, -sum)
-    }
-}
-
-// Writes all bins of the block, and answers the count of products.
-fn bins(block: &[i64], image: &mut [i64]) -> usize
-    requires short { is_short (size block.now) ≡ true }
-    requires room { size image.old ≡ size block.now }
-    requires readings { Small short_limit block.now }
-    ensures made { result ≡ size block.now * size block.now }
-    ensures writes { image.new ≡ image_of (tables_of Standard (size block.now)) block.now }
-{
-    let cosines = cosines(Scale::Standard, block.len());
-    let sines = sines(Scale::Standard, block.len());
-    let mut count = 0;
-    for n in 0..block.len() {
-        let (made, bin) = one_bin(block, cosines, sines, n, count);
-        image[n] = bin;
-        count = made;
-    }
-    count
-}
-
-impl Kernel for Direct {
-    ghost meaning = { λ k. direct (direct_length k) };
-
-    ghost lawful = { λ k. direct_lawful (direct_length k) };
-
-    fn tell(&self) -> Told {
-        if is_short(self.length) {
-            fit(self.length, self.length * self.length)
+    fn try_from(length: usize) -> Result<Sums, Unfit> {
+        if is_short(length) {
+            Ok(Sums { length })
         } else {
-            unfit(self.length)
+            Err(Unfit::NoShortKernel(length as u64))
+        }
+    }
+}
+
+impl Method for Sums {
+    ghost serves = { λ sums. sums.length };
+
+    ghost count = { λ N. N * N };
+
+    ghost chosen = { λ N answer gives. gives };
+
+    ghost few = { sums_few };
+
+    fn products(self) -> usize {
+        self.length * self.length
+    }
+
+    fn bins(self, block: &[i64], image: &mut [i64]) -> usize {
+        Inputs::new(self.length, block).sums(image)
+    }
+}
+
+impl Inputs<'_> {
+    // The row of a table.
+    fn row(&self, table: Table) -> &'static [i64]
+        ensures row { result.now ≡ row_of (entries table Standard) (size self.now.x.now) }
+        ensures whole { size result.now ≡ size self.now.x.now }
+    {
+        match table {
+            Table::Cosines => self.cos,
+            Table::Sines => self.sin,
         }
     }
 
-    fn transform(&self, block: &[i64], image: &mut [i64]) -> Result<usize, KernelFault> {
-        self.tell().admit(Layer::Short, block, image.len())?;
-        Ok(bins(block, image))
+    // The readings times every n-th entry of the table, added up; and the count of products.
+    fn weigh(&self, table: Table, n: usize, count: usize) -> (usize, i64)
+        requires step { n < size self.now.x.now }
+        requires few { count ≤ 81 }
+        ensures { result ≡ (count + size self.now.x.now, Σ (size self.now.x.now) (λ k. reading self.now.x.now k *ℤ entries table Standard (size self.now.x.now) (n * k % size self.now.x.now))) }
+    {
+        let row = self.row(table);
+        let mut made = count;
+        let mut sum: i64 = 0;
+        let mut at = 0;
+        for value in self.x {
+            let (next, term) = product(made, *value, row[at]);
+            made = next;
+            sum += term;
+            // The index goes round the row by a subtraction, since a remainder is slow.
+            at += n;
+            if at >= row.len() {
+                at -= row.len();
+            }
+        }
+        (made, sum)
+    }
+
+    // Bin n of the block, and the count of products.
+    fn bin(&self, n: usize, count: usize) -> (usize, i64)
+        requires at { n < size self.now.x.now }
+        requires few { count ≤ 81 }
+        ensures { result ≡ (count + size self.now.x.now, bin (tables_of Standard (size self.now.x.now)) (reading self.now.x.now) n) }
+    {
+        if n <= self.x.len() / 2 {
+            self.weigh(Table::Cosines, n, count)
+        } else {
+            let (made, sum) = self.weigh(Table::Sines, n, count);
+            (made, -sum)
+        }
+    }
+
+    // Writes all bins of the block, and answers the count of products.
+    fn sums(&self, image: &mut [i64]) -> usize
+        requires room { size image.old ≡ size self.now.x.now }
+        ensures made { result ≡ size self.now.x.now * size self.now.x.now }
+        ensures writes { image.new ≡ image_of (tables_of Standard (size self.now.x.now)) self.now.x.now }
+    {
+        let mut count = 0;
+        for (n, bin) in image.iter_mut().enumerate() {
+            let (made, value) = self.bin(n, count);
+            *bin = value;
+            count = made;
+        }
+        count
     }
 }

@@ -1,56 +1,64 @@
 ghost use Rattle.std.specs.Prelude.{◌≡◌, length as size};
-ghost use Rattle.kernel.specs.Bins.{Alike, image as image_of};
-ghost use Rattle.short.specs.Algorithms.{length_of, Chosen};
-ghost use Rattle.short.specs.Room.{Small};
-ghost use Rattle.short.specs.Short.{short_limit, direct, fast, fast_count, fast_length};
-ghost use Rattle.tables.specs.declared.scale.Scale.TheVariants.{Standard};
-ghost use Rattle.tables.specs.Entries.{tables_of};
-ghost use Rattle.short.specs.Laws.{fast_lawful};
+ghost use Rattle.short.specs.Methods.{Chosen, length_of, few_products};
+ghost use Rattle.short.specs.Short.{fast_count};
 
-use crate::algorithm::Algorithm;
-use crate::figures::{fit, unfit};
-use crate::lengths::{eight, five, four, nine, seven, six, three};
-use kernel::{Kernel, KernelFault, Layer, Told, Unfit};
-use tables::{Scale, cosines, sines};
+use crate::inputs::Inputs;
+use crate::method::Method;
+use kernel::Unfit;
 
-// The short kernel that works the sums with few products.
+// The algorithm of each length from 3 to 9, by few products.
 #[derive(Clone, Copy)]
-pub struct Fast {
-    length: usize,
+pub enum Algorithm {
+    Three,
+    Four,
+    Five,
+    Six,
+    Seven,
+    Eight,
+    Nine,
 }
 
-impl Fast {
-    // The fast kernel of a length: any may be given, and 3 to 9 are fit. It is alike to the direct kernel of that length.
-    pub fn new(length: usize) -> Fast
-        ensures length { fast_length result ≡ length }
-        ensures alike { Alike (direct length).tables (fast length).tables }
-    {
-        Fast { length }
-    }
-}
+impl TryFrom<usize> for Algorithm {
+    type Error = Unfit;
 
-impl Algorithm {
-    // The algorithm of a length, or nothing where no short kernel has it.
-    fn of(length: usize) -> Option<Algorithm>
-        ensures { Chosen length result }
-    {
+    ghost try_from_gives = { Chosen length_of };
+
+    fn try_from(length: usize) -> Result<Algorithm, Unfit> {
         match length {
-            0..=2 => None,
-            n if n > 9 => None,
-            3 => Some(Algorithm::Three),
-            4 => Some(Algorithm::Four),
-            5 => Some(Algorithm::Five),
-            6 => Some(Algorithm::Six),
-            7 => Some(Algorithm::Seven),
-            8 => Some(Algorithm::Eight),
-            _ => Some(Algorithm::Nine),
+            0..=2 => Err(Unfit::NoShortKernel(length as u64)),
+            n if n > 9 => Err(Unfit::NoShortKernel(n as u64)),
+            3 => Ok(Algorithm::Three),
+            4 => Ok(Algorithm::Four),
+            5 => Ok(Algorithm::Five),
+            6 => Ok(Algorithm::Six),
+            7 => Ok(Algorithm::Seven),
+            8 => Ok(Algorithm::Eight),
+            _ => Ok(Algorithm::Nine),
         }
     }
+}
 
-    // The products that it makes.
-    fn products(self) -> usize
-        ensures { result ≡ fast_count (length_of self) }
-    {
+// Writes the bins, and answers their count of products.
+fn put<const N: usize>(answer: &(usize, [i64; N]), image: &mut [i64]) -> usize
+    requires room { size image.old ≡ N }
+    ensures made { result ≡ answer.now.0 }
+    ensures writes { image.new ≡ answer.now.1 }
+{
+    let (made, bins) = answer;
+    image.copy_from_slice(bins);
+    *made
+}
+
+impl Method for Algorithm {
+    ghost serves = { length_of };
+
+    ghost count = { fast_count };
+
+    ghost chosen = { λ N answer gives. gives };
+
+    ghost few = { few_products };
+
+    fn products(self) -> usize {
         match self {
             Algorithm::Three => 2,
             Algorithm::Four => 0,
@@ -62,45 +70,15 @@ impl Algorithm {
         }
     }
 
-    // Writes all bins of the block, and answers the count of products.
-    fn bins(self, block: &[i64], image: &mut [i64]) -> usize
-        requires whole { size block.now ≡ length_of self }
-        requires room { size image.old ≡ length_of self }
-        requires readings { Small short_limit block.now }
-        ensures made { result ≡ fast_count (length_of self) }
-        ensures writes { image.new ≡ image_of (tables_of Standard (length_of self)) block.now }
-    {
-        let scale = Scale::Standard;
+    fn bins(self, block: &[i64], image: &mut [i64]) -> usize {
         match self {
-            Algorithm::Three => three(cosines(scale, 3), sines(scale, 3), block, image),
-            Algorithm::Four => four(cosines(scale, 4), sines(scale, 4), block, image),
-            Algorithm::Five => five(cosines(scale, 5), sines(scale, 5), block, image),
-            Algorithm::Six => six(cosines(scale, 6), sines(scale, 6), block, image),
-            Algorithm::Seven => seven(cosines(scale, 7), sines(scale, 7), block, image),
-            Algorithm::Eight => eight(cosines(scale, 8), sines(scale, 8), block, image),
-            Algorithm::Nine => nine(cosines(scale, 9), sines(scale, 9), block, image),
-        }
-    }
-}
-
-impl Kernel for Fast {
-    ghost meaning = { λ k. fast (fast_length k) };
-
-    ghost lawful = { λ k. fast_lawful (fast_length k) };
-
-    fn tell(&self) -> Told {
-        match Algorithm::of(self.length) {
-            Some(algorithm) => fit(self.length, algorithm.products()),
-            None => unfit(self.length),
-        }
-    }
-
-    fn transform(&self, block: &[i64], image: &mut [i64]) -> Result<usize, KernelFault> {
-        self.tell().admit(Layer::Short, block, image.len())?;
-        match Algorithm::of(self.length) {
-            Some(algorithm) => Ok(algorithm.bins(block, image)),
-            // Not reached: a kernel without an algorithm tells that it is unfit, and was refused above.
-            None => Err(KernelFault::Unfit(Unfit::NoShortKernel(self.length as u64))),
+            Algorithm::Three => put(&Inputs::new(3, block).three(), image),
+            Algorithm::Four => put(&Inputs::new(4, block).four(), image),
+            Algorithm::Five => put(&Inputs::new(5, block).five(), image),
+            Algorithm::Six => put(&Inputs::new(6, block).six(), image),
+            Algorithm::Seven => put(&Inputs::new(7, block).seven(), image),
+            Algorithm::Eight => put(&Inputs::new(8, block).eight(), image),
+            Algorithm::Nine => put(&Inputs::new(9, block).nine(), image),
         }
     }
 }

@@ -1,8 +1,8 @@
 ghost use Rattle.std.specs.Prelude.{◌≡◌};
 ghost use Rattle.kernel.specs.Meaning.{told};
-ghost use Rattle.short.specs.Short.{fit_short, unfit_short};
+ghost use Rattle.short.specs.Short.{fit_short};
 
-use kernel::{Told, Unfit};
+use kernel::Told;
 use tables::Scale;
 
 // The largest size of a reading that a short kernel takes.
@@ -20,19 +20,5 @@ pub(crate) fn fit(length: usize, count: usize) -> Told
         limit: LIMIT,
         scale,
         count,
-    }
-}
-
-// What a kernel tells where no short kernel has the length.
-pub(crate) fn unfit(length: usize) -> Told
-    ensures { result ≡ told (unfit_short length) }
-{
-    Told {
-        fault: Some(Unfit::NoShortKernel(length as u64)),
-        length: 0,
-        gain: 0,
-        limit: 0,
-        scale: 0,
-        count: 0,
     }
 }

@@ -1,13 +1,14 @@
 // Kernels of lengths 3 to 9 over the standard tables.
 #![tactic(auto)]
 
-mod algorithm;
-pub mod direct;
-pub mod fast;
+mod direct;
+mod fast;
 mod figures;
+mod inputs;
 mod lengths;
+mod method;
 mod product;
+pub mod short_kernel;
 mod turn;
 
-pub use direct::Direct;
-pub use fast::Fast;
+pub use short_kernel::{Direct, Fast, ShortKernel};

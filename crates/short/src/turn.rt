@@ -1,4 +1,4 @@
-ghost use Rattle.std.specs.Prelude.{◌≡◌, ◌+◌, ◌^◌, ◌<◌, pos, ◌*ℤ◌};
+ghost use Rattle.std.specs.Prelude.{◌≡◌, ◌+◌, ◌^◌, ◌<◌, pos, ◌*ℤ◌, ◌<ℤ◌};
 ghost use Rattle.short.specs.Room.{Turnable, Multiple, turns};
 ghost use Rattle.short.specs.Short.{short_limit};
 ghost use Rattle.tables.specs.declared.scale.Scale.TheVariants.{Standard};
@@ -6,20 +6,13 @@ ghost use Rattle.tables.specs.Entries.{scale_of};
 
 use crate::product::product;
 
-// Half of a number that two divides.
-pub(crate) fn halved(x: i64) -> i64
-    requires exact { Multiple 2 x }
-    ensures { x ≡ pos 2 *ℤ result }
+// The quotient of a number that D divides.
+pub(crate) fn divided<const D: i64>(x: i64) -> i64
+    requires above { pos 0 <ℤ D }
+    requires exact { Multiple D x }
+    ensures { x ≡ D *ℤ result }
 {
-    x / 2
-}
-
-// A third of a number that three divides.
-fn third(x: i64) -> i64
-    requires exact { Multiple 3 x }
-    ensures { x ≡ pos 3 *ℤ result }
-{
-    x / 3
+    x / D
 }
 
 // Three numbers weighed by three entries, and by the entries turned by one place and by two: four products instead of nine.
@@ -37,9 +30,9 @@ pub(crate) fn turned(count: usize, entries: [i64; 3], numbers: [i64; 3]) -> (usi
     let (made, second) = product(made, 3 * b - sum, y - z);
     let (made, last) = product(made, 3 * c - sum, y - x);
     let sums = [
-        third(all + first + second),
-        third(all - first + last),
-        third(all - second - last),
+        divided::<3>(all + first + second),
+        divided::<3>(all - first + last),
+        divided::<3>(all - second - last),
     ];
     (made, sums)
 }

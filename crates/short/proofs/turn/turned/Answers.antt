@@ -61,8 +61,8 @@ overflow_add-all c = sum_fits c.requires.small c.product-made.ensures c.product-
 pub overflow_add-all-2 : goal.overflow_add-all-2
 overflow_add-all-2 c = sum_fits c.requires.small c.product-made.ensures c.product-made-2.ensures c.product-made-3.ensures c.product-made-4.ensures (m 0 ⊕ m 1 ⊕ m 2) tt
 
-pub third-requires : goal.third-requires
-third-requires c = record { exact = divides c.requires.small c.product-made.ensures c.product-made-2.ensures c.product-made-3.ensures c.product-made-4.ensures (m 0 ⊕ m 1 ⊕ m 2) (turn 0) tt tt }
+pub divided-requires-clause-exact : goal.divided-requires-clause-exact
+divided-requires-clause-exact c = divides c.requires.small c.product-made.ensures c.product-made-2.ensures c.product-made-3.ensures c.product-made-4.ensures (m 0 ⊕ m 1 ⊕ m 2) (turn 0) tt tt
 
 pub overflow_sub-all : goal.overflow_sub-all
 overflow_sub-all c = sum_fits c.requires.small c.product-made.ensures c.product-made-2.ensures c.product-made-3.ensures c.product-made-4.ensures (m 0 ⊖ m 1) tt
@@ -70,8 +70,8 @@ overflow_sub-all c = sum_fits c.requires.small c.product-made.ensures c.product-
 pub overflow_add-all-3 : goal.overflow_add-all-3
 overflow_add-all-3 c = sum_fits c.requires.small c.product-made.ensures c.product-made-2.ensures c.product-made-3.ensures c.product-made-4.ensures (m 0 ⊖ m 1 ⊕ m 3) tt
 
-pub third-requires-2 : goal.third-requires-2
-third-requires-2 c = record { exact = divides c.requires.small c.product-made.ensures c.product-made-2.ensures c.product-made-3.ensures c.product-made-4.ensures (m 0 ⊖ m 1 ⊕ m 3) (turn 1) tt tt }
+pub divided-requires-2-clause-exact : goal.divided-requires-2-clause-exact
+divided-requires-2-clause-exact c = divides c.requires.small c.product-made.ensures c.product-made-2.ensures c.product-made-3.ensures c.product-made-4.ensures (m 0 ⊖ m 1 ⊕ m 3) (turn 1) tt tt
 
 pub overflow_sub-all-2 : goal.overflow_sub-all-2
 overflow_sub-all-2 c = sum_fits c.requires.small c.product-made.ensures c.product-made-2.ensures c.product-made-3.ensures c.product-made-4.ensures (m 0 ⊖ m 2) tt
@@ -79,14 +79,14 @@ overflow_sub-all-2 c = sum_fits c.requires.small c.product-made.ensures c.produc
 pub overflow_sub-all-3 : goal.overflow_sub-all-3
 overflow_sub-all-3 c = sum_fits c.requires.small c.product-made.ensures c.product-made-2.ensures c.product-made-3.ensures c.product-made-4.ensures (m 0 ⊖ m 2 ⊖ m 3) tt
 
-pub third-requires-3 : goal.third-requires-3
-third-requires-3 c = record { exact = divides c.requires.small c.product-made.ensures c.product-made-2.ensures c.product-made-3.ensures c.product-made-4.ensures (m 0 ⊖ m 2 ⊖ m 3) (turn 2) tt tt }
+pub divided-requires-3-clause-exact : goal.divided-requires-3-clause-exact
+divided-requires-3-clause-exact c = divides c.requires.small c.product-made.ensures c.product-made-2.ensures c.product-made-3.ensures c.product-made-4.ensures (m 0 ⊖ m 2 ⊖ m 3) (turn 2) tt tt
 
 pub returns : goal.returns
 returns c =
     let count = counted c.product-made-4.ensures ∙ omega (arith, counted c.product-made.ensures, counted c.product-made-2.ensures, counted c.product-made-3.ensures) in
     ap₂ (λ n y. (n, y)) count
-    (turns_are c.requires.small c.third.result c.third-2.result c.third-3.result
-    (third_is c.requires.small c.product-made.ensures c.product-made-2.ensures c.product-made-3.ensures c.product-made-4.ensures (m 0 ⊕ m 1 ⊕ m 2) (turn 0) tt tt c.third.ensures)
-    (third_is c.requires.small c.product-made.ensures c.product-made-2.ensures c.product-made-3.ensures c.product-made-4.ensures (m 0 ⊖ m 1 ⊕ m 3) (turn 1) tt tt c.third-2.ensures)
-    (third_is c.requires.small c.product-made.ensures c.product-made-2.ensures c.product-made-3.ensures c.product-made-4.ensures (m 0 ⊖ m 2 ⊖ m 3) (turn 2) tt tt c.third-3.ensures))
+    (turns_are c.requires.small c.divided.result c.divided-2.result c.divided-3.result
+    (third_is c.requires.small c.product-made.ensures c.product-made-2.ensures c.product-made-3.ensures c.product-made-4.ensures (m 0 ⊕ m 1 ⊕ m 2) (turn 0) tt tt c.divided.ensures)
+    (third_is c.requires.small c.product-made.ensures c.product-made-2.ensures c.product-made-3.ensures c.product-made-4.ensures (m 0 ⊖ m 1 ⊕ m 3) (turn 1) tt tt c.divided-2.ensures)
+    (third_is c.requires.small c.product-made.ensures c.product-made-2.ensures c.product-made-3.ensures c.product-made-4.ensures (m 0 ⊖ m 2 ⊖ m 3) (turn 2) tt tt c.divided-3.ensures))

@@ -1,0 +1,51 @@
+use Rattle.std.proofs.Common.{[], ◌∷◌, arith, lit<}
+use Rattle.algebra.proofs.Ring.{Exp, ◌⊕◌, ◌⊖◌, ◌⊗◌}
+use Rattle.short.proofs.Lines.{counted, answered, result, fits, product_known, fits_with, written}
+use Rattle.short.proofs.Symbols.{cos, sin, x}
+use Rattle.short.proofs.inputs.Inputs.three.Goals as goal
+
+abbrev sum : Exp
+sum = x 1 ⊕ x 2
+
+abbrev all : Exp
+all = cos 0 ⊗ (x 0 ⊕ sum)
+
+abbrev part : Exp
+part = (cos 1 ⊖ cos 0) ⊗ sum
+
+abbrev last : Exp
+last = sin 1 ⊗ (x 1 ⊖ x 2)
+
+pub overflow_add-sum : goal.overflow_add-sum
+overflow_add-sum c = fits c.args.self.now.ready sum tt
+
+pub overflow_add-all : goal.overflow_add-all
+overflow_add-all c = fits c.args.self.now.ready (x 0 ⊕ sum) tt
+
+pub overflow_mul-all : goal.overflow_mul-all
+overflow_mul-all c = fits c.args.self.now.ready all tt
+
+pub overflow_sub-cos : goal.overflow_sub-cos
+overflow_sub-cos c = fits c.args.self.now.ready (cos 1 ⊖ cos 0) tt
+
+pub product-made-requires : goal.product-made-requires
+product-made-requires c = record { few = lit< tt; room = fits c.args.self.now.ready part tt }
+
+pub overflow_sub-x : goal.overflow_sub-x
+overflow_sub-x c = fits c.args.self.now.ready (x 1 ⊖ x 2) tt
+
+pub product-made-requires-2 : goal.product-made-requires-2
+product-made-requires-2 c = record { few = omega (arith, counted c.product-made.ensures); room = fits c.args.self.now.ready last tt }
+
+pub overflow_add-result : goal.overflow_add-result
+overflow_add-result c = fits_with c.args.self.now.ready (product_known c.args.self.now.ready part tt c.product-made.ensures ∷ []) (all ⊕ result 0) tt
+
+pub returns : goal.returns
+returns c =
+    answered (omega (arith, counted c.product-made.ensures, counted c.product-made-2.ensures))
+    (written c.args.self.now.ready
+    (product_known c.args.self.now.ready part tt c.product-made.ensures
+    ∷ product_known c.args.self.now.ready last tt c.product-made-2.ensures
+    ∷ [])
+    3 c.requires
+    (all ∷ (all ⊕ result 0) ∷ result 1 ∷ []) tt)
