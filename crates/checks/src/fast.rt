@@ -1,9 +1,11 @@
+use crate::transforms::{self, refuses};
 use kernel::{Kernel, KernelFault, Layer, Unfit};
 use short::{Direct, Fast};
+use std::array;
 use std::process::Abort;
 use std::test::Fail;
 
-// The block has these bins, made by so many products.
+// The fast kernel gives the block these bins, by so many products.
 fn gives(
     rt: &impl Abort,
     block: &[i64],
@@ -11,10 +13,7 @@ fn gives(
     products: usize,
     image: &mut [i64],
 ) -> Result<(), Fail> {
-    let count = Fast::new(block.len()).transform(block, image)?;
-    assert_eq!(rt; &*image, bins);
-    assert_eq!(rt; count, products);
-    Ok(())
+    transforms::gives(rt, &Fast::new(block.len()), block, bins, products, image)
 }
 
 #[test]
@@ -58,24 +57,22 @@ fn fast_worked_examples(rt: HostRuntime) -> Result<(), Fail> {
     )
 }
 
-// On the first readings of a block the fast kernel writes what the direct one does, and each answers the count that it tells.
-fn agrees(rt: &impl Abort, length: usize, block: &[i64; 9]) -> Result<(), Fail> {
-    let n = length.min(9);
-    let mut one = [0; 9];
-    let mut other = [0; 9];
-    let direct = Direct::new(n);
-    let fast = Fast::new(n);
-    let slow_count = direct.transform(&block[0..n], &mut one[0..n])?;
-    let fast_count = fast.transform(&block[0..n], &mut other[0..n])?;
-    assert_eq!(rt; &one, &other);
-    assert_eq!(rt; slow_count, direct.tell().count);
-    assert_eq!(rt; fast_count, fast.tell().count);
+// The fast kernel writes what the direct one does, and each answers the count that it tells.
+fn agrees(rt: &(impl Abort + AllocGlobal), block: &[i64]) -> Result<(), Fail> {
+    let mut one = vec![in rt.alloc(); 0; block.len()]?;
+    let mut other = vec![in rt.alloc(); 0; block.len()]?;
+    let direct = Direct::new(block.len());
+    let fast = Fast::new(block.len());
+    assert_eq!(rt; direct.transform(block, &mut one)?, direct.tell().count);
+    assert_eq!(rt; fast.transform(block, &mut other)?, fast.tell().count);
+    assert_eq!(rt; one, other);
     Ok(())
 }
 
-fn all_lengths_agree(rt: &impl Abort, block: &[i64; 9]) -> Result<(), Fail> {
+// The two agree on the first readings of a block, at every length.
+fn all_lengths_agree(rt: &(impl Abort + AllocGlobal), block: &[i64; 9]) -> Result<(), Fail> {
     for length in 3..=9 {
-        agrees(rt, length, block)?;
+        agrees(rt, &block[..length])?;
     }
     Ok(())
 }
@@ -83,12 +80,13 @@ fn all_lengths_agree(rt: &impl Abort, block: &[i64; 9]) -> Result<(), Fail> {
 #[test]
 fn largest_readings_of_all_signs(rt: HostRuntime) -> Result<(), Fail> {
     for pattern in 0..512u32 {
-        let mut block = [1i64 << 40; 9];
-        for (k, reading) in block.iter_mut().enumerate() {
+        let block = array::from_fn(|k| {
             if pattern >> (k % 9) & 1 == 1 {
-                *reading = -(1 << 40);
+                -(1 << 40)
+            } else {
+                1 << 40
             }
-        }
+        });
         all_lengths_agree(&rt, &block)?;
     }
     Ok(())
@@ -97,11 +95,10 @@ fn largest_readings_of_all_signs(rt: HostRuntime) -> Result<(), Fail> {
 #[test]
 fn one_reading_at_each_place(rt: HostRuntime) -> Result<(), Fail> {
     for place in 0..9 {
-        let mut block = [0; 9];
-        block[place] = 1;
-        all_lengths_agree(&rt, &block)?;
-        block[place] = -(1 << 40);
-        all_lengths_agree(&rt, &block)?;
+        for size in [1, -(1 << 40)] {
+            let block = array::from_fn(|k| if k == place { size } else { 0 });
+            all_lengths_agree(&rt, &block)?;
+        }
     }
     Ok(())
 }
@@ -124,38 +121,30 @@ fn table_of_blocks(rt: HostRuntime) -> Result<(), Fail> {
     Ok(())
 }
 
-// The transform is refused by this fault and leaves the image, all 4s, as it was.
-fn refuses(rt: &impl Abort, length: usize, block: &[i64], image: &mut [i64], fault: KernelFault) {
-    assert_eq!(rt; Fast::new(length).transform(block, image), Err(fault));
-    for bin in image.iter() {
-        assert_eq!(rt; *bin, 4);
-    }
-}
-
 #[test]
 fn fast_refuses_as_the_direct_kernel(rt: HostRuntime) {
     for length in [0, 1, 2, 10, usize::MAX] {
         let unfit = Unfit::NoShortKernel(length as u64);
         assert_eq!(rt; Fast::new(length).tell().fault, Some(unfit));
-        refuses(&rt, length, &[1, 2], &mut [4; 2], KernelFault::Unfit(unfit));
+        refuses(&rt, &Fast::new(length), &[1, 2], &mut [4; 2], unfit.into());
     }
     refuses(
         &rt,
-        4,
+        &Fast::new(4),
         &[i64::MIN; 3],
         &mut [4; 3],
         KernelFault::BlockLength(Layer::Short, 3),
     );
     refuses(
         &rt,
-        4,
+        &Fast::new(4),
         &[i64::MIN; 4],
         &mut [4; 3],
         KernelFault::ImageLength(Layer::Short, 3),
     );
     refuses(
         &rt,
-        4,
+        &Fast::new(4),
         &[0, 1 << 40, (1 << 40) + 1, i64::MIN],
         &mut [4; 4],
         KernelFault::Reading(Layer::Short, 2),

@@ -7,3 +7,7 @@ mod direct;
 mod entries;
 #[cfg(test)]
 mod fast;
+#[cfg(test)]
+mod faults;
+#[cfg(test)]
+mod transforms;

@@ -4,7 +4,7 @@ use Rattle.kernel.specs.Bins.{Alike}
 use Rattle.kernel.specs.Refusal.{answer_of, image_after}
 use Rattle.short.specs.Short.{direct, fast, fast_count}
 use Rattle.short.proofs.Alike.{same_after}
-use Rattle.both_kernels.proofs.by_both.Goals as goal
+use Rattle.report.proofs.by_both.Goals as goal
 use Rattle.std.proofs.lemmas.Bool.Decides.{Decides-int_eq}
 
 -- alike kernels write the same over the same
@@ -14,7 +14,7 @@ agree N r old other one two alike one_is two_is e = one_is ∙ same_after N (N *
 pub returns : goal.returns
 returns c =
     let r = c.args.block.now in
-    let slow_is = c.new.ensures in
+    let slow_is = c.new.ensures.length in
     let fast_is = c.new-2.ensures.length in
     let first = c.transform-slow.ensures.writes ∙ ap (λ n. image_after (direct n) r c.args.one.now) slow_is in
     let second = c.transform-quick.ensures.writes ∙ ap (λ n. image_after (fast n) r c.args.other.now) fast_is in
@@ -24,5 +24,5 @@ returns c =
       first = first;
       second = second;
       equal = slice_eq-Decides Decides-int_eq _ _ _ c.eq.ensures;
-      agree = agree (length r) r _ _ _ _ c.new-2.ensures.alike first second;
+      agree = agree (length r) r _ _ _ _ (c.new-2.ensures.alike (length r * length r)) first second;
     }

@@ -1,0 +1,99 @@
+// What the programs print of a kernel.
+#![tactic(auto)]
+
+ghost use Rattle.std.specs.Prelude.{◌≡◌, length as size, Decides};
+ghost use Rattle.kernel.specs.Refusal.{answer_of, image_after};
+ghost use Rattle.short.specs.Short.{direct, fast};
+
+use kernel::{Kernel, KernelFault};
+use short::{Direct, Fast};
+use std::io;
+
+// What a transform answers.
+pub type Answer = Result<usize, KernelFault>;
+
+// Prints what a kernel tells: its figures, or why it is unfit.
+pub fn show_figures<K: Kernel>(rt: &impl Print, kernel: &K) -> io::Result<()> {
+    let told = kernel.tell();
+    let word = if told.fault.is_some() {
+        "unfit"
+    } else {
+        "tells"
+    };
+    println!(rt; "  {word}     {told}")
+}
+
+// Prints a block.
+pub fn show_block(rt: &impl Print, block: &[i64]) -> io::Result<()> {
+    println!(rt; "  block     {block:?}")
+}
+
+// Prints what a transform answered, and the image that it left under this name.
+pub fn show_answer(rt: &impl Print, name: &str, answer: Answer, image: &[i64]) -> io::Result<()> {
+    match answer {
+        Ok(count) => println!(rt; "  {name:<10}{image:?} by {count} products"),
+        Err(fault) => println!(rt; "  refused   {fault}"),
+    }
+}
+
+// Transforms a block by the kernel and prints what came of it. The image is then the block's, also where printing fails.
+pub fn attempt<K: Kernel>(
+    rt: &impl Print,
+    kernel: &K,
+    block: &[i64],
+    image: &mut [i64],
+) -> io::Result<()>
+    ensures { image.new ≡ image_after (K.meaning kernel.now) block.now image.old }
+{
+    let answer = kernel.transform(block, image);
+    show_block(rt, block)?;
+    show_answer(rt, "bins", answer, image)
+}
+
+// Transforms a block by the direct and by the fast kernel of its length: both answers, and whether the images are equal. Images that
+// were equal before are equal again.
+pub fn by_both(block: &[i64], one: &mut [i64], other: &mut [i64]) -> (Answer, Answer, bool)
+    ensures slow { result.0 ≡ answer_of (direct (size block.now)) block.now (size one.old) }
+    ensures quick { result.1 ≡ answer_of (fast (size block.now)) block.now (size other.old) }
+    ensures first { one.new ≡ image_after (direct (size block.now)) block.now one.old }
+    ensures second { other.new ≡ image_after (fast (size block.now)) block.now other.old }
+    ensures equal { Decides result.2 (one.new ≡ other.new) }
+    ensures agree { one.old ≡ other.old → one.new ≡ other.new }
+{
+    let slow = Direct::new(block.len()).transform(block, one);
+    let quick = Fast::new(block.len()).transform(block, other);
+    (slow, quick, *one == *other)
+}
+
+// Prints a block, and what both kernels make of it.
+pub fn compare(rt: &impl Print, block: &[i64], one: &mut [i64], other: &mut [i64]) -> io::Result<()>
+    ensures first { one.new ≡ image_after (direct (size block.now)) block.now one.old }
+    ensures second { other.new ≡ image_after (fast (size block.now)) block.now other.old }
+{
+    let (slow, quick, same) = by_both(block, one, other);
+    show_block(rt, block)?;
+    show_answer(rt, "direct", slow, one)?;
+    show_answer(rt, "fast", quick, other)?;
+    println!(rt; "  the bins agree: {same}")
+}
+
+// What a kernel of length 3 refuses, of each kind, and the largest reading that it takes.
+pub fn refusals<K: Kernel>(rt: &impl Print, kernel: &K) -> io::Result<()> {
+    attempt(rt, kernel, &[1, 2], &mut [0; 3])?;
+    attempt(rt, kernel, &[1, 2, 3], &mut [0; 4])?;
+    attempt(rt, kernel, &[0, 1 << 40, 0], &mut [0; 3])?;
+    attempt(rt, kernel, &[0, (1 << 40) + 1, 0], &mut [0; 3])?;
+    attempt(rt, kernel, &[0, 0, i64::MIN], &mut [0; 3])
+}
+
+// The bins of a block and of its negative cancel, whatever the block: here by a kernel of length 7.
+pub fn cancelling<K: Kernel>(rt: &impl Print, kernel: &K) -> io::Result<()> {
+    let mut bins = [0; 7];
+    let mut others = [0; 7];
+    attempt(rt, kernel, &[-3, 14, 1, -59, 26, 5, 35], &mut bins)?;
+    attempt(rt, kernel, &[3, -14, -1, 59, -26, -5, -35], &mut others)?;
+    for (bin, other) in bins.iter_mut().zip(&others) {
+        *bin = bin.saturating_add(*other);
+    }
+    println!(rt; "  together  {bins:?}")
+}
