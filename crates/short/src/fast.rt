@@ -39,14 +39,14 @@ impl TryFrom<usize> for Algorithm {
 }
 
 // Writes the bins, and answers their count of products.
-fn put<const N: usize>(answer: &(usize, [i64; N]), image: &mut [i64]) -> usize
+fn put<const N: usize>(answer: (usize, [i64; N]), image: &mut [i64]) -> usize
     requires room { size image.old ≡ N }
-    ensures made { result ≡ answer.now.0 }
-    ensures writes { image.new ≡ answer.now.1 }
+    ensures made { result ≡ answer.entry.0 }
+    ensures writes { image.new ≡ answer.entry.1 }
 {
     let (made, bins) = answer;
-    image.copy_from_slice(bins);
-    *made
+    image.copy_from_slice(&bins);
+    made
 }
 
 impl Method for Algorithm {
@@ -72,13 +72,13 @@ impl Method for Algorithm {
 
     fn bins(self, block: &[i64], image: &mut [i64]) -> usize {
         match self {
-            Algorithm::Three => put(&Inputs::new(3, block).three(), image),
-            Algorithm::Four => put(&Inputs::new(4, block).four(), image),
-            Algorithm::Five => put(&Inputs::new(5, block).five(), image),
-            Algorithm::Six => put(&Inputs::new(6, block).six(), image),
-            Algorithm::Seven => put(&Inputs::new(7, block).seven(), image),
-            Algorithm::Eight => put(&Inputs::new(8, block).eight(), image),
-            Algorithm::Nine => put(&Inputs::new(9, block).nine(), image),
+            Algorithm::Three => put(Inputs::new(3, block).three(), image),
+            Algorithm::Four => put(Inputs::new(4, block).four(), image),
+            Algorithm::Five => put(Inputs::new(5, block).five(), image),
+            Algorithm::Six => put(Inputs::new(6, block).six(), image),
+            Algorithm::Seven => put(Inputs::new(7, block).seven(), image),
+            Algorithm::Eight => put(Inputs::new(8, block).eight(), image),
+            Algorithm::Nine => put(Inputs::new(9, block).nine(), image),
         }
     }
 }
