@@ -1,6 +1,6 @@
 -- Straight lines of machine arithmetic over the entries and readings of a short length: nothing overflows, and what they write
 -- is the image, by one computed test for all tables of a length. Assumes nothing.
-use Rattle.std.proofs.Common.{◌≡◌, ℕ, zero, suc, ◌+◌, ◌*◌, ◌%◌, ◌^◌, ◌<◌, ◌≤◌, Bool, true, ◌&&◌, T, eqb, leb, List, [], ◌∷◌, ◌++◌, map, length, get_or, ℤ, pos, ◌*ℤ◌, nat_abs, sym, refl, ap, ◌∙◌, subst, ap₂, le_trans, le_refl, add-zero, mul-le-mul, arith, eqb→eq, leb→le, w64, SFits}
+use Rattle.std.proofs.Common.{◌≡◌, ℕ, zero, suc, ◌+◌, ◌*◌, ◌%◌, ◌^◌, ◌<◌, ◌≤◌, Bool, true, ◌&&◌, T, eqb, leb, List, [], ◌∷◌, ◌++◌, map, length, get_or, ℤ, pos, ◌*ℤ◌, nat_abs, sym, refl, ap, ◌∙◌, subst, ap₂, le_trans, le_refl, add-zero, mul-le-mul, arith, lit<, eqb→eq, leb→le, w64, SFits}
 use native.Mathlib.Decide.{dec_lt}
 use lib.IntN.{+ℤ_idl}
 use Rattle.std.specs.List.{range_with_len}
@@ -151,9 +151,23 @@ module _ {s : Scale} {L : ℕ} {r cosines sines : List ℤ} (ready : Ready s L r
       ∙ get_or-map-range_with_len (λ n. Σ 3 (λ k. reading (outputs ρ es) ((n + k) % 3) *ℤ reading (outputs ρ ts) k)) 0 3 n n (pos 0) h (omega arith)
       ∙ simp (add-zero, output_at es t, output_at ts u, +ℤ_idl)
 
-  abbrev pub turn_known : (es ts : List Exp) (n : ℕ) {count : ℕ} {p : ℕ × List ℤ} → n < 3 → T (all_roomy sizes es) → T (all_roomy sizes ts) → T (roomy sizes (turn_of es ts n))
+  abbrev turn_known : (es ts : List Exp) (n : ℕ) {count : ℕ} {p : ℕ × List ℤ} → n < 3 → T (all_roomy sizes es) → T (all_roomy sizes ts) → T (roomy sizes (turn_of es ts n))
       → p ≡ (count, turns (outputs ρ es) (outputs ρ ts)) → Known ρ sizes
   turn_known es ts n {count} {p} h t u room is = record { number = reading p.1 n; term = turn_of es ts n; is = turned_is es ts t u is n h; room = room }
+
+  -- the three sums that `turned` answers
+  abbrev pub turns_known : (es ts : List Exp) {count : ℕ} {p : ℕ × List ℤ}
+      → T (all_roomy sizes es && all_roomy sizes ts && all_roomy sizes (turn_of es ts 0 ∷ turn_of es ts 1 ∷ turn_of es ts 2 ∷ []))
+      → p ≡ (count, turns (outputs ρ es) (outputs ρ ts)) → List (Known ρ sizes)
+  turns_known es ts t is =
+      let p = both (all_roomy sizes es && all_roomy sizes ts) _ t in
+      let q = both (all_roomy sizes es) (all_roomy sizes ts) p.0 in
+      let r = both (roomy sizes (turn_of es ts 0)) _ p.1 in
+      let w = both (roomy sizes (turn_of es ts 1)) _ r.1 in
+      turn_known es ts 0 (lit< tt) q.0 q.1 r.0 is
+      ∷ turn_known es ts 1 (lit< tt) q.0 q.1 w.0 is
+      ∷ turn_known es ts 2 (lit< tt) q.0 q.1 (both (roomy sizes (turn_of es ts 2)) true w.1).0 is
+      ∷ []
 
   -- what is worked out from the inputs and from known numbers
   module _ (ks : List (Known ρ sizes)) where

@@ -4,20 +4,14 @@ use Rattle.short.proofs.Lines.{counted}
 use Rattle.short.proofs.Turns.{e, t, m, sum, all, first, second, last, turn, fits, sum_fits, divides, third_is, turns_are}
 use Rattle.short.proofs.turn.turned.Goals as goal
 
-pub overflow_add-sum : goal.overflow_add-sum
-overflow_add-sum c = fits c.requires.small (e 0 ⊕ e 1) tt
-
 pub overflow_add-sum-2 : goal.overflow_add-sum-2
 overflow_add-sum-2 c = fits c.requires.small sum tt
-
-pub overflow_add-x : goal.overflow_add-x
-overflow_add-x c = fits c.requires.small (t 0 ⊕ t 1) tt
 
 pub overflow_add-x-2 : goal.overflow_add-x-2
 overflow_add-x-2 c = fits c.requires.small (t 0 ⊕ t 1 ⊕ t 2) tt
 
-pub product-made-requires : goal.product-made-requires
-product-made-requires c = record { few = omega arith; room = fits c.requires.small all tt }
+pub product-made-requires-clause-room : goal.product-made-requires-clause-room
+product-made-requires-clause-room c = fits c.requires.small all tt
 
 pub overflow_mul-a : goal.overflow_mul-a
 overflow_mul-a c = fits c.requires.small (lit (pos 3) ⊗ e 0) tt
@@ -28,8 +22,8 @@ overflow_sub-a c = fits c.requires.small (lit (pos 3) ⊗ e 0 ⊖ sum) tt
 pub overflow_sub-x : goal.overflow_sub-x
 overflow_sub-x c = fits c.requires.small (t 0 ⊖ t 2) tt
 
-pub product-made-requires-2 : goal.product-made-requires-2
-product-made-requires-2 c = record { few = omega (arith, counted c.product-made.ensures); room = fits c.requires.small first tt }
+pub product-made-requires-2-clause-room : goal.product-made-requires-2-clause-room
+product-made-requires-2-clause-room c = fits c.requires.small first tt
 
 pub overflow_mul-b : goal.overflow_mul-b
 overflow_mul-b c = fits c.requires.small (lit (pos 3) ⊗ e 1) tt
@@ -40,8 +34,8 @@ overflow_sub-b c = fits c.requires.small (lit (pos 3) ⊗ e 1 ⊖ sum) tt
 pub overflow_sub-y : goal.overflow_sub-y
 overflow_sub-y c = fits c.requires.small (t 1 ⊖ t 2) tt
 
-pub product-made-requires-3 : goal.product-made-requires-3
-product-made-requires-3 c = record { few = omega (arith, counted c.product-made.ensures, counted c.product-made-2.ensures); room = fits c.requires.small second tt }
+pub product-made-requires-3-clause-room : goal.product-made-requires-3-clause-room
+product-made-requires-3-clause-room c = fits c.requires.small second tt
 
 pub overflow_mul-c : goal.overflow_mul-c
 overflow_mul-c c = fits c.requires.small (lit (pos 3) ⊗ e 2) tt
@@ -52,8 +46,8 @@ overflow_sub-c c = fits c.requires.small (lit (pos 3) ⊗ e 2 ⊖ sum) tt
 pub overflow_sub-y-2 : goal.overflow_sub-y-2
 overflow_sub-y-2 c = fits c.requires.small (t 1 ⊖ t 0) tt
 
-pub product-made-requires-4 : goal.product-made-requires-4
-product-made-requires-4 c = record { few = omega (arith, counted c.product-made.ensures, counted c.product-made-2.ensures, counted c.product-made-3.ensures); room = fits c.requires.small last tt }
+pub product-made-requires-4-clause-room : goal.product-made-requires-4-clause-room
+product-made-requires-4-clause-room c = fits c.requires.small last tt
 
 pub overflow_add-all : goal.overflow_add-all
 overflow_add-all c = sum_fits c.requires.small c.product-made.ensures c.product-made-2.ensures c.product-made-3.ensures c.product-made-4.ensures (m 0 ⊕ m 1) tt

@@ -1,4 +1,4 @@
-use Rattle.std.proofs.Common.{[], ◌∷◌, arith, lit<}
+use Rattle.std.proofs.Common.{[], ◌∷◌, arith}
 use Rattle.algebra.proofs.Ring.{Exp, ◌⊕◌, ◌⊖◌, ◌⊗◌}
 use Rattle.short.proofs.Lines.{counted, answered, result, fits, product_known, fits_with, written}
 use Rattle.short.proofs.Symbols.{cos, sin, x}
@@ -73,14 +73,14 @@ overflow_mul-side c = fits c.args.self.now.ready side tt
 pub overflow_sub-t1 : goal.overflow_sub-t1
 overflow_sub-t1 c = fits c.args.self.now.ready (t1 ⊖ t3) tt
 
-pub product-made-requires : goal.product-made-requires
-product-made-requires c = record { few = lit< tt; room = fits c.args.self.now.ready cross tt }
+pub product-made-requires-clause-room : goal.product-made-requires-clause-room
+product-made-requires-clause-room c = fits c.args.self.now.ready cross tt
 
 pub overflow_add-d1 : goal.overflow_add-d1
 overflow_add-d1 c = fits c.args.self.now.ready (d1 ⊕ d3) tt
 
-pub product-made-requires-2 : goal.product-made-requires-2
-product-made-requires-2 c = record { few = omega (arith, counted c.product-made.ensures); room = fits c.args.self.now.ready turn tt }
+pub product-made-requires-2-clause-room : goal.product-made-requires-2-clause-room
+product-made-requires-2-clause-room c = fits c.args.self.now.ready turn tt
 
 pub overflow_add-bins : goal.overflow_add-bins
 overflow_add-bins c = fits c.args.self.now.ready (even ⊕ t2) tt

@@ -1,7 +1,12 @@
-use Rattle.std.proofs.Common.{List, [], ◌∷◌, pos, arith, lit<}
+use Rattle.std.proofs.Common.{◌≡◌, ℕ, List, [], ◌∷◌, ◌++◌, length, ℤ, pos, ◌*ℤ◌, arith, lit<}
+use Rattle.algebra.proofs.Values.{Known}
+use Rattle.algebra.proofs.Words.{word, run}
+use Rattle.tables.specs.declared.scale.Scale.TheVariants.{Standard}
+use Rattle.short.specs.Room.{Ready, turns}
+use Rattle.short.specs.Short.{short_limit}
 use Rattle.algebra.proofs.Ring.{Exp, lit, ◌⊕◌, ◌⊖◌, ◌⊗◌, neg}
-use Rattle.short.proofs.Lines.{counted, answered, result, fits, product_known, turnable, turn_known, fits_with, divides, quotient_known, written}
-use Rattle.short.proofs.Symbols.{cos, sin, x}
+use Rattle.short.proofs.Lines.{counted, answered, sizes, outputs, result, fits, product_known, turnable, turns_known, fits_with, divides, quotient_known, written}
+use Rattle.short.proofs.Symbols.{inputs, cos, sin, x}
 use Rattle.short.proofs.inputs.Inputs.nine.Goals as goal
 
 abbrev t1 : Exp
@@ -97,14 +102,14 @@ overflow_add-rest c = fits c.args.self.now.ready (t1 ⊕ t2) tt
 pub overflow_add-rest-2 : goal.overflow_add-rest-2
 overflow_add-rest-2 c = fits c.args.self.now.ready rest tt
 
-pub turned-made-requires : goal.turned-made-requires
-turned-made-requires c = record { few = lit< tt; small = turnable c.args.self.now.ready cosines sums tt tt }
+pub turned-made-requires-clause-small : goal.turned-made-requires-clause-small
+turned-made-requires-clause-small c = turnable c.args.self.now.ready cosines sums tt tt
 
-pub turned-made-requires-2 : goal.turned-made-requires-2
-turned-made-requires-2 c = record { few = omega (arith, counted c.turned-made.ensures); small = turnable c.args.self.now.ready sines differences tt tt }
+pub turned-made-requires-2-clause-small : goal.turned-made-requires-2-clause-small
+turned-made-requires-2-clause-small c = turnable c.args.self.now.ready sines differences tt tt
 
-pub product-made-requires : goal.product-made-requires
-product-made-requires c = record { few = omega (arith, counted c.turned-made.ensures, counted c.turned-made-2.ensures); room = fits c.args.self.now.ready side tt }
+pub product-made-requires-clause-room : goal.product-made-requires-clause-room
+product-made-requires-clause-room c = fits c.args.self.now.ready side tt
 
 pub overflow_add-t7 : goal.overflow_add-t7
 overflow_add-t7 c = fits c.args.self.now.ready (t7 ⊕ t5) tt
@@ -112,8 +117,8 @@ overflow_add-t7 c = fits c.args.self.now.ready (t7 ⊕ t5) tt
 pub overflow_add-t7-2 : goal.overflow_add-t7-2
 overflow_add-t7-2 c = fits c.args.self.now.ready (t7 ⊕ t5 ⊕ t8) tt
 
-pub product-made-requires-2 : goal.product-made-requires-2
-product-made-requires-2 c = record { few = omega (arith, counted c.turned-made.ensures, counted c.turned-made-2.ensures, counted c.product-made.ensures); room = fits c.args.self.now.ready sixth tt }
+pub product-made-requires-2-clause-room : goal.product-made-requires-2-clause-room
+product-made-requires-2-clause-room c = fits c.args.self.now.ready sixth tt
 
 pub overflow_mul-x : goal.overflow_mul-x
 overflow_mul-x c = fits c.args.self.now.ready (lit (pos 2) ⊗ x 0) tt
@@ -145,42 +150,49 @@ overflow_add-bins c = fits c.args.self.now.ready (thirds ⊕ rest) tt
 pub overflow_mul-bins : goal.overflow_mul-bins
 overflow_mul-bins c = fits c.args.self.now.ready (cos 0 ⊗ (thirds ⊕ rest)) tt
 
+-- the bins 1, 2 and 4 come from half of base2 and the cosines, the bins 5, 7 and 8 from a product and the sines
+module _ {r cs ss : List ℤ} (ready : Ready Standard short_limit r cs ss) (whole : length r ≡ 9) where
+  abbrev half : (z : ℤ) → word (run (inputs cs ss r) base2) ≡ pos 2 *ℤ z → Known (inputs cs ss r) sizes
+  half z is = quotient_known ready [] 9 whole 2 base2 base tt tt z (lit< tt) tt is
+
+  abbrev lower : (z : ℤ) {count : ℕ} {p : ℕ × List ℤ} → word (run (inputs cs ss r) base2) ≡ pos 2 *ℤ z
+      → p ≡ (count, turns (outputs (inputs cs ss r) cosines) (outputs (inputs cs ss r) sums)) → List (Known (inputs cs ss r) sizes)
+  lower z half_is turns_are = half z half_is ∷ turns_known ready cosines sums tt turns_are
+
+  abbrev upper : {count n : ℕ} {p : ℕ × ℤ} {q : ℕ × List ℤ} → p ≡ (count, run (inputs cs ss r) side)
+      → q ≡ (n, turns (outputs (inputs cs ss r) sines) (outputs (inputs cs ss r) differences)) → List (Known (inputs cs ss r) sizes)
+  upper side_is turns_are = product_known ready side tt side_is ∷ turns_known ready sines differences tt turns_are
+
 pub overflow_add-bins-2 : goal.overflow_add-bins-2
-overflow_add-bins-2 c = fits_with c.args.self.now.ready (quotient_known c.args.self.now.ready [] 9 c.requires 2 base2 base tt tt c.divided-base.result (lit< tt) tt c.divided-base.ensures ∷ turn_known c.args.self.now.ready cosines sums 0 (lit< tt) tt tt tt c.turned-made.ensures ∷ []) (result 0 ⊕ result 1) tt
+overflow_add-bins-2 c = fits_with c.args.self.now.ready (lower c.args.self.now.ready c.requires c.divided-base.result c.divided-base.ensures c.turned-made.ensures) (result 0 ⊕ result 1) tt
 
 pub overflow_add-bins-3 : goal.overflow_add-bins-3
-overflow_add-bins-3 c = fits_with c.args.self.now.ready (quotient_known c.args.self.now.ready [] 9 c.requires 2 base2 base tt tt c.divided-base.result (lit< tt) tt c.divided-base.ensures ∷ turn_known c.args.self.now.ready cosines sums 1 (lit< tt) tt tt tt c.turned-made.ensures ∷ []) (result 0 ⊕ result 1) tt
+overflow_add-bins-3 c = fits_with c.args.self.now.ready (lower c.args.self.now.ready c.requires c.divided-base.result c.divided-base.ensures c.turned-made.ensures) (result 0 ⊕ result 2) tt
 
 pub overflow_add-bins-4 : goal.overflow_add-bins-4
-overflow_add-bins-4 c = fits_with c.args.self.now.ready (quotient_known c.args.self.now.ready [] 9 c.requires 2 base2 base tt tt c.divided-base.result (lit< tt) tt c.divided-base.ensures ∷ turn_known c.args.self.now.ready cosines sums 2 (lit< tt) tt tt tt c.turned-made.ensures ∷ []) (result 0 ⊕ result 1) tt
+overflow_add-bins-4 c = fits_with c.args.self.now.ready (lower c.args.self.now.ready c.requires c.divided-base.result c.divided-base.ensures c.turned-made.ensures) (result 0 ⊕ result 3) tt
 
 pub overflow_add-bins-5 : goal.overflow_add-bins-5
-overflow_add-bins-5 c = fits_with c.args.self.now.ready (product_known c.args.self.now.ready side tt c.product-made.ensures ∷ turn_known c.args.self.now.ready sines differences 0 (lit< tt) tt tt tt c.turned-made-2.ensures ∷ []) (result 0 ⊕ result 1) tt
+overflow_add-bins-5 c = fits_with c.args.self.now.ready (upper c.args.self.now.ready c.requires c.product-made.ensures c.turned-made-2.ensures) (result 0 ⊕ result 1) tt
 
 pub overflow_add-bins-6 : goal.overflow_add-bins-6
-overflow_add-bins-6 c = fits_with c.args.self.now.ready (product_known c.args.self.now.ready side tt c.product-made.ensures ∷ turn_known c.args.self.now.ready sines differences 2 (lit< tt) tt tt tt c.turned-made-2.ensures ∷ []) (result 0 ⊕ result 1) tt
+overflow_add-bins-6 c = fits_with c.args.self.now.ready (upper c.args.self.now.ready c.requires c.product-made.ensures c.turned-made-2.ensures) (result 0 ⊕ result 3) tt
 
 pub overflow_add-bins-7 : goal.overflow_add-bins-7
-overflow_add-bins-7 c = fits_with c.args.self.now.ready (product_known c.args.self.now.ready side tt c.product-made.ensures ∷ turn_known c.args.self.now.ready sines differences 1 (lit< tt) tt tt tt c.turned-made-2.ensures ∷ []) (result 0 ⊕ result 1) tt
+overflow_add-bins-7 c = fits_with c.args.self.now.ready (upper c.args.self.now.ready c.requires c.product-made.ensures c.turned-made-2.ensures) (result 0 ⊕ result 2) tt
 
 pub overflow_sub-bins : goal.overflow_sub-bins
-overflow_sub-bins c = fits_with c.args.self.now.ready (product_known c.args.self.now.ready side tt c.product-made.ensures ∷ turn_known c.args.self.now.ready sines differences 2 (lit< tt) tt tt tt c.turned-made-2.ensures ∷ []) (neg (result 0 ⊕ result 1)) tt
+overflow_sub-bins c = fits_with c.args.self.now.ready (upper c.args.self.now.ready c.requires c.product-made.ensures c.turned-made-2.ensures) (neg (result 0 ⊕ result 3)) tt
 
 pub returns : goal.returns
 returns c =
     answered (omega (arith, counted c.turned-made.ensures, counted c.turned-made-2.ensures, counted c.product-made.ensures, counted c.product-made-2.ensures))
     (written c.args.self.now.ready
-    (quotient_known c.args.self.now.ready [] 9 c.requires 2 base2 base tt tt c.divided-base.result (lit< tt) tt c.divided-base.ensures
-    ∷ quotient_known c.args.self.now.ready [] 9 c.requires 2 third2 third tt tt c.divided-third.result (lit< tt) tt c.divided-third.ensures
-    ∷ product_known c.args.self.now.ready side tt c.product-made.ensures
+    (lower c.args.self.now.ready c.requires c.divided-base.result c.divided-base.ensures c.turned-made.ensures
+    ++ upper c.args.self.now.ready c.requires c.product-made.ensures c.turned-made-2.ensures
+    ++ quotient_known c.args.self.now.ready [] 9 c.requires 2 third2 third tt tt c.divided-third.result (lit< tt) tt c.divided-third.ensures
     ∷ product_known c.args.self.now.ready sixth tt c.product-made-2.ensures
-    ∷ turn_known c.args.self.now.ready cosines sums 0 (lit< tt) tt tt tt c.turned-made.ensures
-    ∷ turn_known c.args.self.now.ready cosines sums 1 (lit< tt) tt tt tt c.turned-made.ensures
-    ∷ turn_known c.args.self.now.ready cosines sums 2 (lit< tt) tt tt tt c.turned-made.ensures
-    ∷ turn_known c.args.self.now.ready sines differences 0 (lit< tt) tt tt tt c.turned-made-2.ensures
-    ∷ turn_known c.args.self.now.ready sines differences 1 (lit< tt) tt tt tt c.turned-made-2.ensures
-    ∷ turn_known c.args.self.now.ready sines differences 2 (lit< tt) tt tt tt c.turned-made-2.ensures
     ∷ [])
     9 c.requires
-    (cos 0 ⊗ (thirds ⊕ rest) ∷ (result 0 ⊕ result 4) ∷ (result 0 ⊕ result 5) ∷ result 1 ∷ (result 0 ⊕ result 6)
-    ∷ (result 2 ⊕ result 7) ∷ result 3 ∷ neg (result 2 ⊕ result 9) ∷ (result 2 ⊕ result 8) ∷ []) tt)
+    (cos 0 ⊗ (thirds ⊕ rest) ∷ (result 0 ⊕ result 1) ∷ (result 0 ⊕ result 2) ∷ result 8 ∷ (result 0 ⊕ result 3)
+    ∷ (result 4 ⊕ result 5) ∷ result 9 ∷ neg (result 4 ⊕ result 7) ∷ (result 4 ⊕ result 6) ∷ []) tt)

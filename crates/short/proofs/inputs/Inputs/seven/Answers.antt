@@ -1,6 +1,6 @@
-use Rattle.std.proofs.Common.{List, [], ◌∷◌, arith, lit<}
+use Rattle.std.proofs.Common.{List, [], ◌∷◌, ◌++◌, arith}
 use Rattle.algebra.proofs.Ring.{Exp, ◌⊕◌, ◌⊖◌, ◌⊗◌, neg}
-use Rattle.short.proofs.Lines.{counted, answered, result, fits, turnable, turn_known, fits_with, written}
+use Rattle.short.proofs.Lines.{counted, answered, result, fits, turnable, turns_known, fits_with, written}
 use Rattle.short.proofs.Symbols.{cos, sin, x}
 use Rattle.short.proofs.inputs.Inputs.seven.Goals as goal
 
@@ -76,34 +76,28 @@ overflow_sub-steps-2 c = fits c.args.self.now.ready (cos 2 ⊖ cos 0) tt
 pub overflow_sub-steps-3 : goal.overflow_sub-steps-3
 overflow_sub-steps-3 c = fits c.args.self.now.ready (cos 3 ⊖ cos 0) tt
 
-pub turned-made-requires : goal.turned-made-requires
-turned-made-requires c = record { few = lit< tt; small = turnable c.args.self.now.ready steps sums tt tt }
+pub turned-made-requires-clause-small : goal.turned-made-requires-clause-small
+turned-made-requires-clause-small c = turnable c.args.self.now.ready steps sums tt tt
 
-pub turned-made-requires-2 : goal.turned-made-requires-2
-turned-made-requires-2 c = record { few = omega (arith, counted c.turned-made.ensures); small = turnable c.args.self.now.ready sines differences tt tt }
+pub turned-made-requires-2-clause-small : goal.turned-made-requires-2-clause-small
+turned-made-requires-2-clause-small c = turnable c.args.self.now.ready sines differences tt tt
 
 pub overflow_add-bins : goal.overflow_add-bins
-overflow_add-bins c = fits_with c.args.self.now.ready (turn_known c.args.self.now.ready steps sums 0 (lit< tt) tt tt tt c.turned-made.ensures ∷ []) (all ⊕ result 0) tt
+overflow_add-bins c = fits_with c.args.self.now.ready (turns_known c.args.self.now.ready steps sums tt c.turned-made.ensures) (all ⊕ result 0) tt
 
 pub overflow_add-bins-2 : goal.overflow_add-bins-2
-overflow_add-bins-2 c = fits_with c.args.self.now.ready (turn_known c.args.self.now.ready steps sums 1 (lit< tt) tt tt tt c.turned-made.ensures ∷ []) (all ⊕ result 0) tt
+overflow_add-bins-2 c = fits_with c.args.self.now.ready (turns_known c.args.self.now.ready steps sums tt c.turned-made.ensures) (all ⊕ result 1) tt
 
 pub overflow_add-bins-3 : goal.overflow_add-bins-3
-overflow_add-bins-3 c = fits_with c.args.self.now.ready (turn_known c.args.self.now.ready steps sums 2 (lit< tt) tt tt tt c.turned-made.ensures ∷ []) (all ⊕ result 0) tt
+overflow_add-bins-3 c = fits_with c.args.self.now.ready (turns_known c.args.self.now.ready steps sums tt c.turned-made.ensures) (all ⊕ result 2) tt
 
 pub overflow_sub-bins : goal.overflow_sub-bins
-overflow_sub-bins c = fits_with c.args.self.now.ready (turn_known c.args.self.now.ready sines differences 2 (lit< tt) tt tt tt c.turned-made-2.ensures ∷ []) (neg (result 0)) tt
+overflow_sub-bins c = fits_with c.args.self.now.ready (turns_known c.args.self.now.ready sines differences tt c.turned-made-2.ensures) (neg (result 2)) tt
 
 pub returns : goal.returns
 returns c =
     answered (omega (arith, counted c.turned-made.ensures, counted c.turned-made-2.ensures))
     (written c.args.self.now.ready
-    (turn_known c.args.self.now.ready steps sums 0 (lit< tt) tt tt tt c.turned-made.ensures
-    ∷ turn_known c.args.self.now.ready steps sums 1 (lit< tt) tt tt tt c.turned-made.ensures
-    ∷ turn_known c.args.self.now.ready steps sums 2 (lit< tt) tt tt tt c.turned-made.ensures
-    ∷ turn_known c.args.self.now.ready sines differences 0 (lit< tt) tt tt tt c.turned-made-2.ensures
-    ∷ turn_known c.args.self.now.ready sines differences 1 (lit< tt) tt tt tt c.turned-made-2.ensures
-    ∷ turn_known c.args.self.now.ready sines differences 2 (lit< tt) tt tt tt c.turned-made-2.ensures
-    ∷ [])
+    (turns_known c.args.self.now.ready steps sums tt c.turned-made.ensures ++ turns_known c.args.self.now.ready sines differences tt c.turned-made-2.ensures)
     7 c.requires
     (all ∷ (all ⊕ result 0) ∷ (all ⊕ result 1) ∷ (all ⊕ result 2) ∷ neg (result 5) ∷ result 4 ∷ result 3 ∷ []) tt)

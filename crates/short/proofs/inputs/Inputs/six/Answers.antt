@@ -1,4 +1,4 @@
-use Rattle.std.proofs.Common.{[], ◌∷◌, arith, lit<}
+use Rattle.std.proofs.Common.{[], ◌∷◌, arith}
 use Rattle.algebra.proofs.Ring.{Exp, ◌⊕◌, ◌⊖◌, ◌⊗◌}
 use Rattle.short.proofs.Lines.{counted, answered, result, fits, product_known, fits_with, written}
 use Rattle.short.proofs.Symbols.{cos, sin, x}
@@ -76,23 +76,23 @@ overflow_add-even c = fits c.args.self.now.ready even tt
 pub overflow_add-odd : goal.overflow_add-odd
 overflow_add-odd c = fits c.args.self.now.ready odd tt
 
-pub product-made-requires : goal.product-made-requires
-product-made-requires c = record { few = lit< tt; room = fits c.args.self.now.ready near tt }
+pub product-made-requires-clause-room : goal.product-made-requires-clause-room
+product-made-requires-clause-room c = fits c.args.self.now.ready near tt
 
-pub product-made-requires-2 : goal.product-made-requires-2
-product-made-requires-2 c = record { few = omega (arith, counted c.product-made.ensures); room = fits c.args.self.now.ready far tt }
+pub product-made-requires-2-clause-room : goal.product-made-requires-2-clause-room
+product-made-requires-2-clause-room c = fits c.args.self.now.ready far tt
 
 pub overflow_sub-u1 : goal.overflow_sub-u1
 overflow_sub-u1 c = fits c.args.self.now.ready (u1 ⊖ u2) tt
 
-pub product-made-requires-3 : goal.product-made-requires-3
-product-made-requires-3 c = record { few = omega (arith, counted c.product-made.ensures, counted c.product-made-2.ensures); room = fits c.args.self.now.ready low tt }
+pub product-made-requires-3-clause-room : goal.product-made-requires-3-clause-room
+product-made-requires-3-clause-room c = fits c.args.self.now.ready low tt
 
 pub overflow_sub-w2-2 : goal.overflow_sub-w2-2
 overflow_sub-w2-2 c = fits c.args.self.now.ready (w2 ⊖ w1) tt
 
-pub product-made-requires-4 : goal.product-made-requires-4
-product-made-requires-4 c = record { few = omega (arith, counted c.product-made.ensures, counted c.product-made-2.ensures, counted c.product-made-3.ensures); room = fits c.args.self.now.ready high tt }
+pub product-made-requires-4-clause-room : goal.product-made-requires-4-clause-room
+product-made-requires-4-clause-room c = fits c.args.self.now.ready high tt
 
 pub overflow_add-all : goal.overflow_add-all
 overflow_add-all c = fits c.args.self.now.ready (u0 ⊕ even) tt

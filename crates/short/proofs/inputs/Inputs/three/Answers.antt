@@ -1,4 +1,4 @@
-use Rattle.std.proofs.Common.{[], ◌∷◌, arith, lit<}
+use Rattle.std.proofs.Common.{[], ◌∷◌, arith}
 use Rattle.algebra.proofs.Ring.{Exp, ◌⊕◌, ◌⊖◌, ◌⊗◌}
 use Rattle.short.proofs.Lines.{counted, answered, result, fits, product_known, fits_with, written}
 use Rattle.short.proofs.Symbols.{cos, sin, x}
@@ -28,14 +28,14 @@ overflow_mul-all c = fits c.args.self.now.ready all tt
 pub overflow_sub-cos : goal.overflow_sub-cos
 overflow_sub-cos c = fits c.args.self.now.ready (cos 1 ⊖ cos 0) tt
 
-pub product-made-requires : goal.product-made-requires
-product-made-requires c = record { few = lit< tt; room = fits c.args.self.now.ready part tt }
+pub product-made-requires-clause-room : goal.product-made-requires-clause-room
+product-made-requires-clause-room c = fits c.args.self.now.ready part tt
 
 pub overflow_sub-x : goal.overflow_sub-x
 overflow_sub-x c = fits c.args.self.now.ready (x 1 ⊖ x 2) tt
 
-pub product-made-requires-2 : goal.product-made-requires-2
-product-made-requires-2 c = record { few = omega (arith, counted c.product-made.ensures); room = fits c.args.self.now.ready last tt }
+pub product-made-requires-2-clause-room : goal.product-made-requires-2-clause-room
+product-made-requires-2-clause-room c = fits c.args.self.now.ready last tt
 
 pub overflow_add-result : goal.overflow_add-result
 overflow_add-result c = fits_with c.args.self.now.ready (product_known c.args.self.now.ready part tt c.product-made.ensures ∷ []) (all ⊕ result 0) tt
