@@ -40,30 +40,6 @@ cross = cos 1 ⊗ (t1 ⊖ t3)
 abbrev turn : Exp
 turn = sin 1 ⊗ (d1 ⊕ d3)
 
-pub overflow_add-even : goal.overflow_add-even
-overflow_add-even c = fits c.args.self.now.ready even tt
-
-pub overflow_sub-gap : goal.overflow_sub-gap
-overflow_sub-gap c = fits c.args.self.now.ready gap tt
-
-pub overflow_add-t1 : goal.overflow_add-t1
-overflow_add-t1 c = fits c.args.self.now.ready t1 tt
-
-pub overflow_sub-d1 : goal.overflow_sub-d1
-overflow_sub-d1 c = fits c.args.self.now.ready d1 tt
-
-pub overflow_add-t2 : goal.overflow_add-t2
-overflow_add-t2 c = fits c.args.self.now.ready t2 tt
-
-pub overflow_sub-d2 : goal.overflow_sub-d2
-overflow_sub-d2 c = fits c.args.self.now.ready d2 tt
-
-pub overflow_add-t3 : goal.overflow_add-t3
-overflow_add-t3 c = fits c.args.self.now.ready t3 tt
-
-pub overflow_sub-d3 : goal.overflow_sub-d3
-overflow_sub-d3 c = fits c.args.self.now.ready d3 tt
-
 pub overflow_mul-base : goal.overflow_mul-base
 overflow_mul-base c = fits c.args.self.now.ready base tt
 

@@ -51,18 +51,6 @@ first = cos 0 ⊗ x 0 ⊕ cos 1 ⊗ t1 ⊕ cos 2 ⊗ t2
 abbrev second : Exp
 second = cos 0 ⊗ x 0 ⊕ cos 2 ⊗ t1 ⊕ cos 1 ⊗ t2
 
-pub overflow_add-t1 : goal.overflow_add-t1
-overflow_add-t1 c = fits c.args.self.now.ready t1 tt
-
-pub overflow_sub-t4 : goal.overflow_sub-t4
-overflow_sub-t4 c = fits c.args.self.now.ready t4 tt
-
-pub overflow_add-t2 : goal.overflow_add-t2
-overflow_add-t2 c = fits c.args.self.now.ready t2 tt
-
-pub overflow_sub-t3 : goal.overflow_sub-t3
-overflow_sub-t3 c = fits c.args.self.now.ready t3 tt
-
 pub overflow_add-sum : goal.overflow_add-sum
 overflow_add-sum c = fits c.args.self.now.ready sum tt
 

@@ -16,18 +16,6 @@ odd = x 1 ⊕ x 3
 abbrev side : Exp
 side = x 1 ⊖ x 3
 
-pub overflow_add-even : goal.overflow_add-even
-overflow_add-even c = fits c.args.self.now.ready even tt
-
-pub overflow_sub-gap : goal.overflow_sub-gap
-overflow_sub-gap c = fits c.args.self.now.ready gap tt
-
-pub overflow_add-odd : goal.overflow_add-odd
-overflow_add-odd c = fits c.args.self.now.ready odd tt
-
-pub overflow_sub-side : goal.overflow_sub-side
-overflow_sub-side c = fits c.args.self.now.ready side tt
-
 pub overflow_add-bins : goal.overflow_add-bins
 overflow_add-bins c = fits c.args.self.now.ready (even ⊕ odd) tt
 

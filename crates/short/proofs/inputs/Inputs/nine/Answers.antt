@@ -69,30 +69,6 @@ third2 = cos 0 ⊗ (lit (pos 2) ⊗ thirds ⊖ rest)
 abbrev third : Exp
 third = cos 0 ⊗ thirds ⊕ cos 3 ⊗ rest
 
-pub overflow_add-t1 : goal.overflow_add-t1
-overflow_add-t1 c = fits c.args.self.now.ready t1 tt
-
-pub overflow_sub-t8 : goal.overflow_sub-t8
-overflow_sub-t8 c = fits c.args.self.now.ready t8 tt
-
-pub overflow_add-t2 : goal.overflow_add-t2
-overflow_add-t2 c = fits c.args.self.now.ready t2 tt
-
-pub overflow_sub-t7 : goal.overflow_sub-t7
-overflow_sub-t7 c = fits c.args.self.now.ready t7 tt
-
-pub overflow_add-t3 : goal.overflow_add-t3
-overflow_add-t3 c = fits c.args.self.now.ready t3 tt
-
-pub overflow_sub-t6 : goal.overflow_sub-t6
-overflow_sub-t6 c = fits c.args.self.now.ready t6 tt
-
-pub overflow_add-t4 : goal.overflow_add-t4
-overflow_add-t4 c = fits c.args.self.now.ready t4 tt
-
-pub overflow_sub-t5 : goal.overflow_sub-t5
-overflow_sub-t5 c = fits c.args.self.now.ready t5 tt
-
 pub overflow_add-thirds : goal.overflow_add-thirds
 overflow_add-thirds c = fits c.args.self.now.ready thirds tt
 

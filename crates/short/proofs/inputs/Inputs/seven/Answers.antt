@@ -37,24 +37,6 @@ sines = sin 1 ∷ sin 2 ∷ sin 4 ∷ []
 abbrev differences : List Exp
 differences = t6 ∷ t5 ∷ t4 ∷ []
 
-pub overflow_add-t1 : goal.overflow_add-t1
-overflow_add-t1 c = fits c.args.self.now.ready t1 tt
-
-pub overflow_sub-t6 : goal.overflow_sub-t6
-overflow_sub-t6 c = fits c.args.self.now.ready t6 tt
-
-pub overflow_add-t2 : goal.overflow_add-t2
-overflow_add-t2 c = fits c.args.self.now.ready t2 tt
-
-pub overflow_sub-t5 : goal.overflow_sub-t5
-overflow_sub-t5 c = fits c.args.self.now.ready t5 tt
-
-pub overflow_add-t3 : goal.overflow_add-t3
-overflow_add-t3 c = fits c.args.self.now.ready t3 tt
-
-pub overflow_sub-t4 : goal.overflow_sub-t4
-overflow_sub-t4 c = fits c.args.self.now.ready t4 tt
-
 pub overflow_add-all : goal.overflow_add-all
 overflow_add-all c = fits c.args.self.now.ready (x 0 ⊕ t1) tt
 

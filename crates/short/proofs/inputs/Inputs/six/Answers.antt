@@ -52,24 +52,6 @@ middle = cos 0 ⊗ (w0 ⊕ odd)
 pub overflow_sub-step : goal.overflow_sub-step
 overflow_sub-step c = fits c.args.self.now.ready step tt
 
-pub overflow_add-u0 : goal.overflow_add-u0
-overflow_add-u0 c = fits c.args.self.now.ready u0 tt
-
-pub overflow_sub-w0 : goal.overflow_sub-w0
-overflow_sub-w0 c = fits c.args.self.now.ready w0 tt
-
-pub overflow_add-u1 : goal.overflow_add-u1
-overflow_add-u1 c = fits c.args.self.now.ready u1 tt
-
-pub overflow_sub-w1 : goal.overflow_sub-w1
-overflow_sub-w1 c = fits c.args.self.now.ready w1 tt
-
-pub overflow_add-u2 : goal.overflow_add-u2
-overflow_add-u2 c = fits c.args.self.now.ready u2 tt
-
-pub overflow_sub-w2 : goal.overflow_sub-w2
-overflow_sub-w2 c = fits c.args.self.now.ready w2 tt
-
 pub overflow_add-even : goal.overflow_add-even
 overflow_add-even c = fits c.args.self.now.ready even tt
 

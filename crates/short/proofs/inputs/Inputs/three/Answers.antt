@@ -16,9 +16,6 @@ part = (cos 1 ⊖ cos 0) ⊗ sum
 abbrev last : Exp
 last = sin 1 ⊗ (x 1 ⊖ x 2)
 
-pub overflow_add-sum : goal.overflow_add-sum
-overflow_add-sum c = fits c.args.self.now.ready sum tt
-
 pub overflow_add-all : goal.overflow_add-all
 overflow_add-all c = fits c.args.self.now.ready (x 0 ⊕ sum) tt
 
@@ -30,9 +27,6 @@ overflow_sub-cos c = fits c.args.self.now.ready (cos 1 ⊖ cos 0) tt
 
 pub product-made-requires-clause-room : goal.product-made-requires-clause-room
 product-made-requires-clause-room c = fits c.args.self.now.ready part tt
-
-pub overflow_sub-x : goal.overflow_sub-x
-overflow_sub-x c = fits c.args.self.now.ready (x 1 ⊖ x 2) tt
 
 pub product-made-requires-2-clause-room : goal.product-made-requires-2-clause-room
 product-made-requires-2-clause-room c = fits c.args.self.now.ready last tt
