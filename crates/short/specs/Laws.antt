@@ -1,13 +1,13 @@
 -- A short kernel keeps the laws of a kernel. Assumes nothing.
-use Rattle.std.specs.Prelude.{◌≡◌, ℕ, ◌*◌, ◌≤◌, Bool, true, false, cond, refl}
-use Rattle.std.proofs.Common.{arith}
+use Rattle.std.specs.Prelude.{◌≡◌, ℕ, ◌*◌, ◌≤◌, Bool, true, false, cond, T, nat_le, refl}
+use Rattle.std.proofs.Common.{arith, leb→le}
+use Rattle.algebra.proofs.Tests.{below}
 use Rattle.kernel.specs.Meaning.{Fit, Idle, Lawful}
 use Rattle.tables.specs.declared.scale.Scale.TheVariants.{Standard}
 use Rattle.tables.specs.Entries.{is_short}
 use Rattle.tables.proofs.Laws.{short_laws}
-use Rattle.tables.proofs.Lengths.{bounds}
+use Rattle.tables.proofs.Lengths.{bounds, everywhere, everywhere_at}
 use Rattle.short.specs.Short.{fit_short, unfit_short, short, direct, fast, fast_count}
-use Rattle.short.specs.Methods.{sums_few, few_products}
 
 fit : (N count : ℕ) → is_short N ≡ true → count ≤ N * N → Fit (fit_short N count)
 fit N count e few =
@@ -39,7 +39,19 @@ short_lawful N count few = go (is_short N) refl
     go true e = fit N count e (few e)
     go false e = idle N
 
--- at both methods
+-- the sums as they are written make no more products than themselves
+pub sums_few : (N : ℕ) → is_short N ≡ true → N * N ≤ N * N
+sums_few N e = omega arith
+
+-- the algorithms make no more products than the sums as they are written
+counts : T (everywhere (λ N. nat_le (fast_count N) (N * N)))
+unfolding everywhere below
+counts = tt
+
+pub few_products : (N : ℕ) → is_short N ≡ true → fast_count N ≤ N * N
+few_products N e = leb→le (fast_count N) (N * N) (everywhere_at _ counts N e)
+
+-- the law at both methods: the direct and the fast kernel
 pub direct_lawful : (N : ℕ) → Lawful (direct N)
 direct_lawful N = short_lawful N (N * N) (sums_few N)
 

@@ -1,7 +1,8 @@
 ghost use Rattle.std.specs.Prelude.{◌≡◌, ℕ, ◌+◌, ◌*◌, ◌%◌, ◌<◌, ◌≤◌, true, length as size, ◌*ℤ◌};
 ghost use Rattle.algebra.specs.Sums.{Σ};
 ghost use Rattle.kernel.specs.Bins.{reading, bin, image as image_of};
-ghost use Rattle.short.specs.Methods.{Chosen, sums_few};
+ghost use Rattle.short.specs.Laws.{sums_few};
+ghost use Rattle.short.specs.Methods.{Chosen};
 ghost use Rattle.tables.specs.declared.scale.Scale.TheVariants.{Standard};
 ghost use Rattle.tables.specs.Entries.{is_short, row_of, entries, tables_of};
 

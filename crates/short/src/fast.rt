@@ -1,5 +1,6 @@
 ghost use Rattle.std.specs.Prelude.{◌≡◌, length as size};
-ghost use Rattle.short.specs.Methods.{Chosen, length_of, few_products};
+ghost use Rattle.short.specs.Laws.{few_products};
+ghost use Rattle.short.specs.Methods.{Chosen, length_of};
 ghost use Rattle.short.specs.Short.{fast_count};
 
 use crate::inputs::Inputs;
