@@ -1,33 +1,50 @@
-use crate::transforms::{self, refuses};
+use crate::transforms::{gives, refuses};
 use kernel::{Kernel, KernelFault, Layer, Told, Unfit};
 use short::Direct;
-use std::process::Abort;
 use std::test::Fail;
-
-// The direct kernel gives the block these bins, by N · N products.
-fn gives(rt: &impl Abort, block: &[i64], bins: &[i64], image: &mut [i64]) -> Result<(), Fail> {
-    let length = block.len();
-    let products = length.saturating_mul(length);
-    transforms::gives(rt, &Direct::new(length), block, bins, products, image)
-}
 
 #[test]
 fn worked_examples(rt: HostRuntime) -> Result<(), Fail> {
-    gives(&rt, &[1, 2, 3], &[98304, -24576, -14189], &mut [0; 3])?;
     gives(
         &rt,
+        &Direct::new(3),
+        &[1, 2, 3],
+        &[98304, -24576, -14189],
+        9,
+        &mut [0; 3],
+    )?;
+    gives(
+        &rt,
+        &Direct::new(4),
         &[1, 2, 3, 4],
         &[163840, -32768, -32768, -32768],
+        16,
         &mut [0; 4],
     )?;
     gives(
         &rt,
+        &Direct::new(5),
         &[0, 1, 0, 0, 0],
         &[16384, 5063, -13255, 9630, 15582],
+        25,
         &mut [0; 5],
     )?;
-    gives(&rt, &[1; 7], &[114688, 0, 0, 0, 0, 0, 0], &mut [9; 7])?;
-    gives(&rt, &[1; 9], &[147456, 0, 0, 0, 0, 0, 0, 0, 0], &mut [9; 9])
+    gives(
+        &rt,
+        &Direct::new(7),
+        &[1; 7],
+        &[114688, 0, 0, 0, 0, 0, 0],
+        49,
+        &mut [9; 7],
+    )?;
+    gives(
+        &rt,
+        &Direct::new(9),
+        &[1; 9],
+        &[147456, 0, 0, 0, 0, 0, 0, 0, 0],
+        81,
+        &mut [9; 9],
+    )
 }
 
 #[test]
@@ -35,20 +52,26 @@ fn readings_up_to_the_limit(rt: HostRuntime) -> Result<(), Fail> {
     let most = 1 << 40;
     gives(
         &rt,
+        &Direct::new(3),
         &[most, -most, most],
         &[1 << 54, 1 << 54, -(28378 << 40)],
+        9,
         &mut [0; 3],
     )?;
     gives(
         &rt,
+        &Direct::new(9),
         &[most; 9],
         &[9 << 54, 0, 0, 0, 0, 0, 0, 0, 0],
+        81,
         &mut [0; 9],
     )?;
     gives(
         &rt,
+        &Direct::new(9),
         &[-most; 9],
         &[-(9 << 54), 0, 0, 0, 0, 0, 0, 0, 0],
+        81,
         &mut [0; 9],
     )?;
     refuses(

@@ -1,26 +1,23 @@
-use crate::transforms::{self, refuses};
+use crate::transforms::{gives, refuses};
 use kernel::{Kernel, KernelFault, Layer, Unfit};
 use short::{Direct, Fast};
 use std::array;
 use std::process::Abort;
 use std::test::Fail;
 
-// The fast kernel gives the block these bins, by so many products.
-fn gives(
-    rt: &impl Abort,
-    block: &[i64],
-    bins: &[i64],
-    products: usize,
-    image: &mut [i64],
-) -> Result<(), Fail> {
-    transforms::gives(rt, &Fast::new(block.len()), block, bins, products, image)
-}
-
 #[test]
 fn fast_worked_examples(rt: HostRuntime) -> Result<(), Fail> {
-    gives(&rt, &[1, 2, 3], &[98304, -24576, -14189], 2, &mut [0; 3])?;
     gives(
         &rt,
+        &Fast::new(3),
+        &[1, 2, 3],
+        &[98304, -24576, -14189],
+        2,
+        &mut [0; 3],
+    )?;
+    gives(
+        &rt,
+        &Fast::new(4),
         &[1, 2, 3, 4],
         &[163840, -32768, -32768, -32768],
         0,
@@ -28,6 +25,7 @@ fn fast_worked_examples(rt: HostRuntime) -> Result<(), Fail> {
     )?;
     gives(
         &rt,
+        &Fast::new(5),
         &[0, 1, 0, 0, 0],
         &[16384, 5063, -13255, 9630, 15582],
         5,
@@ -35,14 +33,23 @@ fn fast_worked_examples(rt: HostRuntime) -> Result<(), Fail> {
     )?;
     gives(
         &rt,
+        &Fast::new(6),
         &[1, -2, 3, -4, 5, -6],
         &[-49152, -49152, -49152, 344064, 85134, 28378],
         4,
         &mut [0; 6],
     )?;
-    gives(&rt, &[1; 7], &[114688, 0, 0, 0, 0, 0, 0], 8, &mut [9; 7])?;
     gives(
         &rt,
+        &Fast::new(7),
+        &[1; 7],
+        &[114688, 0, 0, 0, 0, 0, 0],
+        8,
+        &mut [9; 7],
+    )?;
+    gives(
+        &rt,
+        &Fast::new(8),
         &[0, 0, 0, 1, 0, 0, 0, 7],
         &[131072, 69510, 0, -69510, -131072, -69510, -131072, -69510],
         2,
@@ -50,6 +57,7 @@ fn fast_worked_examples(rt: HostRuntime) -> Result<(), Fail> {
     )?;
     gives(
         &rt,
+        &Fast::new(9),
         &[1; 9],
         &[147456, 0, 0, 0, 0, 0, 0, 0, 0],
         10,

@@ -4,7 +4,7 @@ ghost use Rattle.kernel.specs.Refusal.{first_above, refused, answered};
 use crate::fault::{KernelFault, Layer};
 use crate::told::Told;
 
-// The index of the first reading whose size is above the limit.
+// The index of the first reading whose size is above the limit. A loop with the index, as every check of a block's readings is written.
 pub fn first_above(block: &[i64], limit: u64) -> Option<usize>
     ensures { result ≡ first_above limit block.now }
 {
@@ -24,6 +24,7 @@ impl Told {
         if let Some(unfit) = self.fault {
             return Err(unfit.into());
         }
+        // `as` loses nothing of a length or an index, and there is no `From` for it.
         if block.len() != self.length {
             return Err(KernelFault::BlockLength(layer, block.len() as u64));
         }

@@ -4,7 +4,8 @@ ghost use Rattle.kernel.specs.Refusal.{letter_of, code_of};
 use crate::fault::{KernelFault, Layer, Unfit};
 use std::fmt;
 
-// What a fault tells a person or a program: its number, its place and the letter of the layer where it arose.
+// What a fault tells a person or a program: its number, its place and the letter of the layer where it arose. Numbers and letters,
+// since faults are called so outside; code goes by the enum.
 #[derive(Clone, Copy, PartialEq, Eq, Debug)]
 pub struct Code {
     pub number: u8,

@@ -3,7 +3,7 @@ ghost use Rattle.std.specs.Prelude.{◌≡◌};
 use crate::fault::Unfit;
 use std::fmt;
 
-// What a kernel tells of itself: 0 for each figure where it is unfit.
+// What a kernel tells of itself: 0 for each figure where it is unfit. No `Result`, since every figure has an answer of any kernel.
 #[derive(Clone, Copy, PartialEq, Eq, Debug, Default)]
 pub struct Told {
     pub fault: Option<Unfit>,

@@ -71,6 +71,7 @@ impl Method for Algorithm {
         }
     }
 
+    // The one `match` over the length answers an enum and this runs it, since no function may hand out another.
     fn bins(self, block: &[i64], image: &mut [i64]) -> usize {
         match self {
             Algorithm::Three => put(Inputs::new(3, block).three(), image),
