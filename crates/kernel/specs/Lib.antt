@@ -1,3 +1,4 @@
 pub mod Bins
 pub mod Meaning
 pub mod Refusal
+pub mod Text

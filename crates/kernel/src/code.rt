@@ -1,4 +1,4 @@
-ghost use Rattle.std.specs.Prelude.{◌≡◌};
+ghost use Rattle.std.specs.Prelude.{◌≡◌, Some};
 ghost use Rattle.kernel.specs.Refusal.{letter_of, code_of};
 
 use crate::fault::{KernelFault, Layer, Unfit};
@@ -46,6 +46,10 @@ impl From<KernelFault> for Code {
 }
 
 impl fmt::Display for Code {
+    ghost use Rattle.kernel.specs.Text.{code_text};
+
+    ghost output = { λ code. Some (code_text code) };
+
     fn fmt<W: fmt::Write>(&self, f: &mut fmt::Formatter<W>) -> fmt::Result {
         write!(
             f,

@@ -1,4 +1,4 @@
-ghost use Rattle.std.specs.Prelude.{◌≡◌};
+ghost use Rattle.std.specs.Prelude.{◌≡◌, Some};
 ghost use Rattle.kernel.specs.declared.fault.KernelFault.TheVariants.{Unfit as UnfitFault};
 
 use crate::code::Code;
@@ -47,12 +47,20 @@ impl From<Unfit> for KernelFault {
 }
 
 impl fmt::Display for Unfit {
+    ghost use Rattle.kernel.specs.Text.{unfit_text};
+
+    ghost output = { λ unfit. Some (unfit_text unfit) };
+
     fn fmt<W: fmt::Write>(&self, f: &mut fmt::Formatter<W>) -> fmt::Result {
         KernelFault::from(*self).fmt(f)
     }
 }
 
 impl fmt::Display for KernelFault {
+    ghost use Rattle.kernel.specs.Text.{fault_text};
+
+    ghost output = { λ fault. Some (fault_text fault) };
+
     fn fmt<W: fmt::Write>(&self, f: &mut fmt::Formatter<W>) -> fmt::Result {
         Code::from(*self).fmt(f)
     }

@@ -1,4 +1,4 @@
-ghost use Rattle.std.specs.Prelude.{◌≡◌};
+ghost use Rattle.std.specs.Prelude.{◌≡◌, Some};
 
 use crate::fault::Unfit;
 use std::fmt;
@@ -28,6 +28,10 @@ impl From<Unfit> for Told {
 }
 
 impl fmt::Display for Told {
+    ghost use Rattle.kernel.specs.Text.{told_text};
+
+    ghost output = { λ told. Some (told_text told) };
+
     fn fmt<W: fmt::Write>(&self, f: &mut fmt::Formatter<W>) -> fmt::Result {
         match self.fault {
             Some(unfit) => unfit.fmt(f),

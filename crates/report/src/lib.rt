@@ -24,12 +24,12 @@ pub fn show_figures<K: Kernel>(rt: &impl Print, kernel: &K) -> io::Result<()> {
 }
 
 // Prints a block.
-pub fn show_block(rt: &impl Print, block: &[i64]) -> io::Result<()> {
+fn show_block(rt: &impl Print, block: &[i64]) -> io::Result<()> {
     println!(rt; "  block     {block:?}")
 }
 
 // Prints what a transform answered, and the image that it left under this name.
-pub fn show_answer(rt: &impl Print, name: &str, answer: Answer, image: &[i64]) -> io::Result<()> {
+fn show_answer(rt: &impl Print, name: &str, answer: Answer, image: &[i64]) -> io::Result<()> {
     match answer {
         Ok(count) => println!(rt; "  {name:<10}{image:?} by {count} products"),
         Err(fault) => println!(rt; "  refused   {fault}"),
