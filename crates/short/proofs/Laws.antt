@@ -42,16 +42,16 @@ entry_small Sines s N e = (short_laws N e).S_size s
 pub entries_small : (t : Table) (s : Scale) (N : ℕ) {row : List ℤ} → is_short N ≡ true → row ≡ row_of (entries t s) N → Small (scale_of s) row
 entries_small t s N {row} e is k h = rw (is, row_at (entries t s) N e k (rw (← row_length (entries t s) N e, ← is) h)) (entry_small t s N e k)
 
--- the rows of a length, beside a block of it
-pub ready_by : {N : ℕ} {r cosines sines : List ℤ} → length r ≡ N → is_short N ≡ true → Small short_limit r → cosines ≡ row_of (C Standard) N → sines ≡ row_of (S Standard) N
-    → Ready Standard short_limit r cosines sines
-ready_by {N} {r} {cosines} {sines} whole e small c_are s_are =
+-- the rows of a length at a scale, beside a block of that length
+pub ready_by : {s : Scale} {L N : ℕ} {r cosines sines : List ℤ} → Units (scale_of s) L → length r ≡ N → is_short N ≡ true → Small L r
+    → cosines ≡ row_of (C s) N → sines ≡ row_of (S s) N → Ready s L r cosines sines
+ready_by {s} {L} {N} {r} {cosines} {sines} units whole e small c_are s_are =
     record {
       short = rw whole e;
       cosines_are = rw whole c_are;
       sines_are = rw whole s_are;
-      cosines_whole = ap length c_are ∙ row_length (C Standard) N e ∙ sym whole;
-      sines_whole = ap length s_are ∙ row_length (S Standard) N e ∙ sym whole;
+      cosines_whole = ap length c_are ∙ row_length (C s) N e ∙ sym whole;
+      sines_whole = ap length s_are ∙ row_length (S s) N e ∙ sym whole;
       readings = small;
-      units = standard_units;
+      units = units;
     }
