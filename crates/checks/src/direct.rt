@@ -106,9 +106,9 @@ fn readings_up_to_the_limit(rt: HostRuntime) -> Result<(), Fail> {
 }
 
 #[test]
-fn other_lengths_are_unfit(rt: HostRuntime) {
+fn other_lengths_are_unfit(rt: HostRuntime) -> Result<(), Fail> {
     for length in [0, 1, 2, 10, usize::MAX] {
-        let unfit = Unfit::NoShortKernel(length as u64);
+        let unfit = Unfit::NoShortKernel(u64::try_from(length)?);
         assert_eq!(rt;
             Direct::new(length).tell(),
             Told {
@@ -125,9 +125,10 @@ fn other_lengths_are_unfit(rt: HostRuntime) {
             &Direct::new(length),
             &[1, 2],
             &mut [4; 2],
-            unfit.into(),
+            KernelFault::Unfit(unfit),
         );
     }
+    Ok(())
 }
 
 #[test]

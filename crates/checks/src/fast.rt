@@ -121,7 +121,7 @@ fn table_of_blocks(rt: HostRuntime) -> Result<(), Fail> {
             state = state
                 .wrapping_mul(6364136223846793005)
                 .wrapping_add(1442695040888963407);
-            let size = (state >> 24) as i64 - (1 << 39);
+            let size = i64::try_from(state >> 24)? - (1 << 39);
             *reading = if turn % 2 == 0 { size } else { size >> 24 };
         }
         all_lengths_agree(&rt, &block)?;
@@ -130,11 +130,17 @@ fn table_of_blocks(rt: HostRuntime) -> Result<(), Fail> {
 }
 
 #[test]
-fn fast_refuses_as_the_direct_kernel(rt: HostRuntime) {
+fn fast_refuses_as_the_direct_kernel(rt: HostRuntime) -> Result<(), Fail> {
     for length in [0, 1, 2, 10, usize::MAX] {
-        let unfit = Unfit::NoShortKernel(length as u64);
+        let unfit = Unfit::NoShortKernel(u64::try_from(length)?);
         assert_eq!(rt; Fast::new(length).tell().fault, Some(unfit));
-        refuses(&rt, &Fast::new(length), &[1, 2], &mut [4; 2], unfit.into());
+        refuses(
+            &rt,
+            &Fast::new(length),
+            &[1, 2],
+            &mut [4; 2],
+            KernelFault::Unfit(unfit),
+        );
     }
     refuses(
         &rt,
@@ -157,4 +163,5 @@ fn fast_refuses_as_the_direct_kernel(rt: HostRuntime) {
         &mut [4; 4],
         KernelFault::Reading(Layer::Short, 2),
     );
+    Ok(())
 }

@@ -1,26 +1,35 @@
 // What the programs print of a kernel.
 #![tactic(auto)]
 
-ghost use Rattle.std.specs.Prelude.{◌≡◌, length as size, Decides};
+ghost use Rattle.std.specs.Prelude.{◌≡◌, length as size, IfOk, Decides};
 ghost use Rattle.kernel.specs.Refusal.{answer_of, image_after};
 ghost use Rattle.short.specs.Short.{direct, fast};
 
 use kernel::{Kernel, KernelFault};
 use short::{Direct, Fast};
+use std::fmt::Display;
 use std::io;
 
 // What a transform answers.
 pub type Answer = Result<usize, KernelFault>;
 
-// Prints what a kernel tells: its figures, or why it is unfit.
-pub fn show_figures<K: Kernel>(rt: &impl Print, kernel: &K) -> io::Result<()> {
+// Prints a heading and what the kernel tells, its figures or why it is unfit; and gives the kernel back.
+pub fn introduce<K: Kernel + Drop>(
+    rt: &impl Print,
+    heading: impl Display + Drop,
+    kernel: K,
+) -> io::Result<K>
+    ensures { IfOk result (λ k. k ≡ kernel) }
+{
     let told = kernel.tell();
     let word = if told.fault.is_some() {
         "unfit"
     } else {
         "tells"
     };
-    println!(rt; "  {word}     {told}")
+    println!(rt; "{heading}")?;
+    println!(rt; "  {word}     {told}")?;
+    Ok(kernel)
 }
 
 // Prints a block.

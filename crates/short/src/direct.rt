@@ -1,4 +1,4 @@
-ghost use Rattle.std.specs.Prelude.{◌≡◌, ℕ, ◌+◌, ◌*◌, ◌%◌, ◌<◌, ◌≤◌, true, length as size, ◌*ℤ◌};
+ghost use Rattle.std.specs.Prelude.{◌≡◌, ℕ, ◌+◌, ◌*◌, ◌%◌, ◌^◌, ◌<◌, true, length as size, ◌*ℤ◌};
 ghost use Rattle.algebra.specs.Sums.{Σ};
 ghost use Rattle.kernel.specs.Bins.{reading, bin, image as image_of};
 ghost use Rattle.short.specs.Laws.{sums_few};
@@ -7,7 +7,7 @@ ghost use Rattle.tables.specs.declared.scale.Scale.TheVariants.{Standard};
 ghost use Rattle.tables.specs.Entries.{is_short, row_of, entries, tables_of};
 
 use crate::inputs::Inputs;
-use crate::method::Method;
+use crate::method::{Method, no_short_kernel};
 use crate::product::product;
 use kernel::Unfit;
 use tables::{Table, is_short};
@@ -28,7 +28,7 @@ impl TryFrom<usize> for Sums {
         if is_short(length) {
             Ok(Sums { length })
         } else {
-            Err(Unfit::NoShortKernel(length as u64))
+            Err(no_short_kernel(length))
         }
     }
 }
@@ -52,7 +52,7 @@ impl Method for Sums {
 }
 
 impl Inputs<'_> {
-    // The row of a table.
+    // The row of a table: passing it on by itself would ask again whose row it is.
     fn row(&self, table: Table) -> &'static [i64]
         ensures row { result.now ≡ row_of (entries table Standard) (size self.now.x.now) }
         ensures whole { size result.now ≡ size self.now.x.now }
@@ -63,10 +63,10 @@ impl Inputs<'_> {
         }
     }
 
-    // The readings times every n-th entry of the table, added up; and the count of products.
+    // The readings times every n-th entry of the table, added up; and the count of products, which is handed on as `product` gives it.
     fn weigh(&self, table: Table, n: usize, count: usize) -> (usize, i64)
         requires step { n < size self.now.x.now }
-        requires few { count ≤ 81 }
+        requires few { count < 2 ^ 16 }
         ensures { result ≡ (count + size self.now.x.now, Σ (size self.now.x.now) (λ k. reading self.now.x.now k *ℤ entries table Standard (size self.now.x.now) (n * k % size self.now.x.now))) }
     {
         let row = self.row(table);
@@ -86,10 +86,10 @@ impl Inputs<'_> {
         (made, sum)
     }
 
-    // Bin n of the block, and the count of products.
+    // Bin n of the block, and the count of products, likewise.
     fn bin(&self, n: usize, count: usize) -> (usize, i64)
         requires at { n < size self.now.x.now }
-        requires few { count ≤ 81 }
+        requires few { count < 2 ^ 16 }
         ensures { result ≡ (count + size self.now.x.now, bin (tables_of Standard (size self.now.x.now)) (reading self.now.x.now) n) }
     {
         if n <= self.x.len() / 2 {

@@ -4,7 +4,7 @@ ghost use Rattle.short.specs.Methods.{Chosen, length_of};
 ghost use Rattle.short.specs.Short.{fast_count};
 
 use crate::inputs::Inputs;
-use crate::method::Method;
+use crate::method::{Method, no_short_kernel};
 use kernel::Unfit;
 
 // The algorithm of each length from 3 to 9, by few products.
@@ -26,8 +26,8 @@ impl TryFrom<usize> for Algorithm {
 
     fn try_from(length: usize) -> Result<Algorithm, Unfit> {
         match length {
-            0..=2 => Err(Unfit::NoShortKernel(length as u64)),
-            n if n > 9 => Err(Unfit::NoShortKernel(n as u64)),
+            0..=2 => Err(no_short_kernel(length)),
+            n if n > 9 => Err(no_short_kernel(n)),
             3 => Ok(Algorithm::Three),
             4 => Ok(Algorithm::Four),
             5 => Ok(Algorithm::Five),

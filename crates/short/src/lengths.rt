@@ -7,7 +7,8 @@ use crate::inputs::Inputs;
 use crate::product::product;
 use crate::turn::{divided, turned};
 
-// The algorithm of each length: the count of its products, and the bins. cos[0] is the scale. Counted are the products that `product`
+// The algorithm of each length: the count of its products, and the bins. Each asks for its own length, since the length of a block is
+// known at run time only. cos[0] is the scale. Counted are the products that `product`
 // makes; beside them there is only scaling, doubling and exact division.
 impl Inputs<'_> {
     // Length 3, by two products.

@@ -1,5 +1,6 @@
 ghost use Rattle.std.specs.Prelude.{◌≡◌, ℕ, ◌*◌, ◌≤◌, true, length as size};
 ghost use Rattle.kernel.specs.Bins.{image as image_of};
+ghost use Rattle.kernel.specs.declared.fault.Unfit.TheVariants.{NoShortKernel};
 ghost use Rattle.short.specs.Methods.{Chosen};
 ghost use Rattle.short.specs.Room.{Small};
 ghost use Rattle.short.specs.Short.{short_limit};
@@ -7,6 +8,14 @@ ghost use Rattle.tables.specs.declared.scale.Scale.TheVariants.{Standard};
 ghost use Rattle.tables.specs.Entries.{is_short, tables_of};
 
 use kernel::Unfit;
+
+// The fault of a length that no short kernel has.
+pub(crate) fn no_short_kernel(length: usize) -> Unfit
+    ensures { result ≡ NoShortKernel length }
+{
+    // `as` loses nothing of a length, and there is no `From` for it.
+    Unfit::NoShortKernel(length as u64)
+}
 
 // A way to work the bins of a short block: one value of the type serves one length.
 pub(crate) trait Method: TryFrom<usize, Error = Unfit> {

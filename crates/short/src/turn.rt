@@ -16,7 +16,7 @@ pub(crate) fn divided<const D: i64>(x: i64) -> i64
 }
 
 // Three numbers weighed by three entries, and by the entries turned by one place and by two: four products instead of nine.
-// Three times each sum is carried, and divided at the end.
+// Three times each sum is carried, and divided at the end. The count is handed on as `product` gives it.
 pub(crate) fn turned(count: usize, entries: [i64; 3], numbers: [i64; 3]) -> (usize, [i64; 3])
     requires few { count < 2 ^ 16 }
     requires small { Turnable (scale_of Standard) short_limit entries numbers }

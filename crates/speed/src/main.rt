@@ -40,7 +40,7 @@ fn time<K: Kernel>(rt: &HostRuntime, kernel: &K, rounds: u32) -> anyhow::Result<
     let mix = mixed(kernel, &mut block, &mut image, rounds)?;
     let nanos = start.elapsed(rt)?.as_nanos();
     let each = nanos.saturating_mul(1000) / u128::from(rounds.max(1));
-    Ok((u64::try_from(each).unwrap_or(u64::MAX), mix))
+    Ok((u64::try_from(each).unwrap_or(u64::MAX).min(1 << 60), mix))
 }
 
 // One length: the direct kernel, then the fast one, on the same blocks.

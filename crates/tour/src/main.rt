@@ -5,11 +5,11 @@ ghost use Rattle.kernel.specs.Refusal.{image_after};
 ghost use Rattle.short.specs.Kernels.{short_length};
 ghost use Rattle.short.specs.Short.{direct};
 
-use report::{attempt, cancelling, refusals, show_figures};
+use report::{attempt, cancelling, introduce, refusals};
 use short::Direct;
 use std::io;
 
-// Transforms a block by the kernel and prints what came of it. The image is then the block's, also where printing fails.
+// Transforms a block by the kernel and prints what came of it: `attempt`, with its promise for the direct kernel by name.
 fn show(rt: &HostRuntime, kernel: &Direct, block: &[i64], image: &mut [i64]) -> io::Result<()>
     ensures { image.new ≡ image_after (direct (short_length kernel.now)) block.now image.old }
 {
@@ -21,9 +21,7 @@ fn make(rt: &HostRuntime, length: usize) -> io::Result<Direct>
     ensures { IfOk result (λ k. short_length k ≡ length) }
 {
     let kernel = Direct::new(length);
-    println!(rt; "direct kernel of length {length}")?;
-    show_figures(rt, &kernel)?;
-    Ok(kernel)
+    introduce(rt, format_args!("direct kernel of length {length}"), kernel)
 }
 
 // Blocks of several lengths and their bins.

@@ -1,6 +1,6 @@
-use Rattle.std.proofs.Common.{pos, ◌∙◌, ap₂, arith}
+use Rattle.std.proofs.Common.{pos, ◌∙◌, arith}
 use Rattle.algebra.proofs.Ring.{lit, ◌⊕◌, ◌⊖◌, ◌⊗◌}
-use Rattle.short.proofs.Lines.{counted}
+use Rattle.short.proofs.Lines.{counted, answered}
 use Rattle.short.proofs.Turns.{e, t, m, sum, all, first, second, last, turn, fits, sum_fits, divides, third_is, turns_are}
 use Rattle.short.proofs.turn.turned.Goals as goal
 
@@ -79,7 +79,7 @@ divided-requires-3-clause-exact c = divides c.requires.small c.product-made.ensu
 pub returns : goal.returns
 returns c =
     let count = counted c.product-made-4.ensures ∙ omega (arith, counted c.product-made.ensures, counted c.product-made-2.ensures, counted c.product-made-3.ensures) in
-    ap₂ (λ n y. (n, y)) count
+    answered count
     (turns_are c.requires.small c.divided.result c.divided-2.result c.divided-3.result
     (third_is c.requires.small c.product-made.ensures c.product-made-2.ensures c.product-made-3.ensures c.product-made-4.ensures (m 0 ⊕ m 1 ⊕ m 2) (turn 0) tt tt c.divided.ensures)
     (third_is c.requires.small c.product-made.ensures c.product-made-2.ensures c.product-made-3.ensures c.product-made-4.ensures (m 0 ⊖ m 1 ⊕ m 3) (turn 1) tt tt c.divided-2.ensures)

@@ -4,6 +4,7 @@ use Rattle.kernel.proofs.Image.{image_is}
 use Rattle.tables.specs.declared.scale.Scale.TheVariants.{Standard}
 use Rattle.tables.specs.Entries.{tables_of}
 use Rattle.tables.proofs.Lengths.{bounds}
+use Rattle.short.proofs.Lines.{counted}
 use Rattle.short.proofs.inputs.Inputs.sums.Goals as goal
 
 pub bin-made-requires : goal.bin-made-requires
@@ -17,7 +18,7 @@ loop-n-preserved c =
     let fits : SFits w64 c.bin-made.result.1 = search rules in
     let e = to_z-of_z w64 c.bin-made.result.1 fits ∙ ap (λ p. p.1) c.bin-made.ensures in
     let l : c.loop-n.n < length c.loop-n.image = omega arith in (
-      ap (λ p. p.0) c.bin-made.ensures ∙ omega (arith, add-mul c.loop-n.n 1 (length c.args.self.now.x.now)),
+      counted c.bin-made.ensures ∙ omega (arith, add-mul c.loop-n.n 1 (length c.args.self.now.x.now)),
       below_more _ _
           (λ i h. let other : i ≢ c.loop-n.n = omega arith in rw get_or-set_other (c.loop-n.invariant.1 i h))
           (rw get_or-set_same e),

@@ -1,10 +1,9 @@
-use Rattle.std.proofs.Common.{◌≡◌, ◌+◌, ◌*◌, ◌%◌, length, refl, ap, ◌∙◌, mod-lt, mul-zero, arith}
+use Rattle.std.proofs.Common.{◌≡◌, ◌+◌, ◌*◌, ◌%◌, length, refl, ◌∙◌, mod-lt, mul-zero, arith}
 use native.Mathlib.Nat.{zero-mod}
 use Rattle.algebra.specs.Sums.{Σ}
 use Rattle.algebra.proofs.Congruence.{remainder_step}
-use Rattle.tables.proofs.Lengths.{bounds}
-use Rattle.tables.specs.declared.scale.Scale.TheVariants.{Standard}
-use Rattle.short.proofs.Weigh.{term, made, added}
+use Rattle.short.proofs.Lines.{counted}
+use Rattle.short.proofs.Weigh.{made, added}
 use Rattle.short.proofs.inputs.Inputs.weigh.Goals as goal
 use Rattle.short.proofs.inputs.Inputs.weigh.Goals.{then-at-row, else-at-row}
 
@@ -12,13 +11,10 @@ pub loop-value-init : goal.loop-value-init
 unfolding Σ
 loop-value-init c = (omega arith, refl, rw (mul-zero, zero-mod), omega arith)
 
-pub product-next-requires : goal.product-next-requires
-product-next-requires c =
+pub product-next-requires-clause-room : goal.product-next-requires-clause-room
+product-next-requires-clause-room c =
     let l = c.loop-value in
-    record {
-      few = omega (arith, (bounds (length c.args.self.now.x.now) c.args.self.now.ready.short).1);
-      room = (made c.args.self.now.ready c.args.table c.args.n l.value-index l.at c.row-row.ensures.row c.loop-value-test.true l.invariant.2).0;
-    }
+    (made c.args.self.now.ready c.args.table c.args.n l.value-index l.at c.row-row.ensures.row c.loop-value-test.true l.invariant.2).0
 
 pub overflow_add-sum : goal.overflow_add-sum
 overflow_add-sum c =
@@ -38,12 +34,4 @@ loop-value-preserved c =
       | then-at-row w ↦ step (λ h. absurd (omega (arith, w.if-at-row.true, c.row-row.ensures.whole))) (λ _. rw (← c.row-row.ensures.whole) w.at-is)
       | else-at-row w ↦ step (λ _. w.at-is) (λ h. absurd (omega (arith, w.if-at-row.false, c.row-row.ensures.whole)))
     ] in
-    (ap (λ p. p.0) c.product-next.ensures ∙ omega arith, sum, next, rw next (mod-lt (n * (k + 1)) (omega arith)))
-
-pub returns : goal.returns
-returns c =
-    let r = c.args.self.now.x.now in
-    let e : c.loop-value.value-index ≡ length r = omega arith in
-    let m = c.loop-value.invariant.0 ∙ ap (λ n. c.args.count + n) e in
-    let s = c.loop-value.invariant.1 ∙ ap (λ n. Σ n (term c.args.table Standard r c.args.n)) e in
-    cc
+    (counted c.product-next.ensures ∙ omega arith, sum, next, rw next (mod-lt (n * (k + 1)) (omega arith)))
