@@ -1,50 +1,23 @@
-use crate::transforms::{gives, refuses};
+use crate::transforms::{EXAMPLES, gives, refuses};
 use kernel::{Kernel, KernelFault, Layer, Told, Unfit};
 use short::Direct;
 use std::test::Fail;
 
 #[test]
 fn worked_examples(rt: HostRuntime) -> Result<(), Fail> {
-    gives(
-        &rt,
-        &Direct::new(3),
-        &[1, 2, 3],
-        &[98304, -24576, -14189],
-        9,
-        &mut [0; 3],
-    )?;
-    gives(
-        &rt,
-        &Direct::new(4),
-        &[1, 2, 3, 4],
-        &[163840, -32768, -32768, -32768],
-        16,
-        &mut [0; 4],
-    )?;
-    gives(
-        &rt,
-        &Direct::new(5),
-        &[0, 1, 0, 0, 0],
-        &[16384, 5063, -13255, 9630, 15582],
-        25,
-        &mut [0; 5],
-    )?;
-    gives(
-        &rt,
-        &Direct::new(7),
-        &[1; 7],
-        &[114688, 0, 0, 0, 0, 0, 0],
-        49,
-        &mut [9; 7],
-    )?;
-    gives(
-        &rt,
-        &Direct::new(9),
-        &[1; 9],
-        &[147456, 0, 0, 0, 0, 0, 0, 0, 0],
-        81,
-        &mut [9; 9],
-    )
+    for example in &EXAMPLES {
+        let mut image = vec![in rt.alloc(); 9; example.block.len()]?;
+        let kernel = Direct::new(example.block.len());
+        gives(
+            &rt,
+            &kernel,
+            example.block,
+            example.bins,
+            example.direct,
+            &mut image,
+        )?;
+    }
+    Ok(())
 }
 
 #[test]

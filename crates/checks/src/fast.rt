@@ -1,4 +1,4 @@
-use crate::transforms::{gives, refuses};
+use crate::transforms::{EXAMPLES, gives, refuses};
 use kernel::{Kernel, KernelFault, Layer, Unfit};
 use short::{Direct, Fast};
 use std::array;
@@ -7,62 +7,19 @@ use std::test::Fail;
 
 #[test]
 fn fast_worked_examples(rt: HostRuntime) -> Result<(), Fail> {
-    gives(
-        &rt,
-        &Fast::new(3),
-        &[1, 2, 3],
-        &[98304, -24576, -14189],
-        2,
-        &mut [0; 3],
-    )?;
-    gives(
-        &rt,
-        &Fast::new(4),
-        &[1, 2, 3, 4],
-        &[163840, -32768, -32768, -32768],
-        0,
-        &mut [0; 4],
-    )?;
-    gives(
-        &rt,
-        &Fast::new(5),
-        &[0, 1, 0, 0, 0],
-        &[16384, 5063, -13255, 9630, 15582],
-        5,
-        &mut [0; 5],
-    )?;
-    gives(
-        &rt,
-        &Fast::new(6),
-        &[1, -2, 3, -4, 5, -6],
-        &[-49152, -49152, -49152, 344064, 85134, 28378],
-        4,
-        &mut [0; 6],
-    )?;
-    gives(
-        &rt,
-        &Fast::new(7),
-        &[1; 7],
-        &[114688, 0, 0, 0, 0, 0, 0],
-        8,
-        &mut [9; 7],
-    )?;
-    gives(
-        &rt,
-        &Fast::new(8),
-        &[0, 0, 0, 1, 0, 0, 0, 7],
-        &[131072, 69510, 0, -69510, -131072, -69510, -131072, -69510],
-        2,
-        &mut [9; 8],
-    )?;
-    gives(
-        &rt,
-        &Fast::new(9),
-        &[1; 9],
-        &[147456, 0, 0, 0, 0, 0, 0, 0, 0],
-        10,
-        &mut [9; 9],
-    )
+    for example in &EXAMPLES {
+        let mut image = vec![in rt.alloc(); 9; example.block.len()]?;
+        let kernel = Fast::new(example.block.len());
+        gives(
+            &rt,
+            &kernel,
+            example.block,
+            example.bins,
+            example.fast,
+            &mut image,
+        )?;
+    }
+    Ok(())
 }
 
 // The fast kernel writes what the direct one does, and each answers the count that it tells.

@@ -1,5 +1,5 @@
 -- The bins of a block: exact sums over a cosine and a sine table. Assumes nothing.
-use Rattle.std.specs.Prelude.{◌≡◌, ℕ, ◌+◌, ◌-◌, ◌*◌, ◌/◌, ◌%◌, ◌<◌, ◌≤◌, cond, List, map, ℤ, pos, ◌*ℤ◌, neg_ℤ, nat_le, slice_index_or}
+use Rattle.std.specs.Prelude.{◌≡◌, ℕ, ◌+◌, ◌-◌, ◌*◌, ◌/◌, ◌%◌, ◌<◌, ◌≤◌, if◌then◌else◌, List, map, ℤ, pos, ◌*ℤ◌, neg_ℤ, nat_le, slice_index_or}
 use Rattle.std.specs.List.{range_with_len}
 use Rattle.algebra.specs.Sums.{Σ}
 
@@ -16,9 +16,9 @@ reading r k = slice_index_or r k (pos 0)
 -- bin n of the row r: cosines up to the half length, minus sines above it
 unfoldable pub bin : Tables → (ℕ → ℤ) → ℕ → ℤ
 bin t r n =
-    cond (nat_le n (t.N / 2))
-    (Σ t.N (λ k. r k *ℤ t.C (n * k % t.N)))
-    (neg_ℤ (Σ t.N (λ k. r k *ℤ t.S (n * k % t.N))))
+    if nat_le n (t.N / 2)
+    then Σ t.N (λ k. r k *ℤ t.C (n * k % t.N))
+    else neg_ℤ (Σ t.N (λ k. r k *ℤ t.S (n * k % t.N)))
 
 -- the image of a block: its N bins
 unfoldable pub image : Tables → List ℤ → List ℤ

@@ -1,5 +1,5 @@
 -- Why a transform is refused, in the order of the checks; and the number, place and layer of each fault. Assumes nothing.
-use Rattle.std.specs.Prelude.{ℕ, cond, List, length, ℤ, Some, None, Ok, Err, Option, Result, ◌==◌, nat_lt, unsigned_abs}
+use Rattle.std.specs.Prelude.{ℕ, if◌then◌else◌, List, length, ℤ, Some, None, Ok, Err, Option, Result, ◌==◌, nat_lt, unsigned_abs}
 use Rattle.std.specs.List.{position}
 use Rattle.std.specs.Option.{option_map}
 use Rattle.kernel.specs.declared.fault.Layer.{Layer}
@@ -21,9 +21,9 @@ first_above limit r = position (λ x. nat_lt limit (unsigned_abs x)) r
 -- the limit
 abbrev pub misfit : Layer → ℕ → ℕ → List ℤ → ℕ → Option KernelFault
 misfit layer N limit r k =
-    cond (length r == N)
-    (cond (k == N) (option_map (Reading layer) (first_above limit r)) (Some (ImageLength layer k)))
-    (Some (BlockLength layer (length r)))
+    if length r == N
+    then (if k == N then option_map (Reading layer) (first_above limit r) else Some (ImageLength layer k))
+    else Some (BlockLength layer (length r))
 
 -- an unfit kernel refuses first
 abbrev pub unfit_first : Option Unfitness → Option KernelFault → Option KernelFault

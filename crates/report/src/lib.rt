@@ -1,7 +1,7 @@
 // What the programs print of a kernel.
 #![tactic(auto)]
 
-ghost use Rattle.std.specs.Prelude.{◌≡◌, length as size, IfOk, Decides};
+ghost use Rattle.std.specs.Prelude.{◌≡◌, ◌↔◌, length as size, IsTrue, IfOk};
 ghost use Rattle.kernel.specs.Refusal.{answer_of, image_after};
 ghost use Rattle.short.specs.Short.{direct, fast};
 
@@ -66,7 +66,7 @@ pub fn by_both(block: &[i64], one: &mut [i64], other: &mut [i64]) -> (Answer, An
     ensures quick { result.1 ≡ answer_of (fast (size block.now)) block.now (size other.old) }
     ensures first { one.new ≡ image_after (direct (size block.now)) block.now one.old }
     ensures second { other.new ≡ image_after (fast (size block.now)) block.now other.old }
-    ensures equal { Decides result.2 (one.new ≡ other.new) }
+    ensures equal { IsTrue result.2 ↔ (one.new ≡ other.new) }
     ensures agree { one.old ≡ other.old → one.new ≡ other.new }
 {
     let slow = Direct::new(block.len()).transform(block, one);

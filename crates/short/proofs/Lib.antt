@@ -4,5 +4,4 @@ pub mod Symbols
 pub mod Related
 pub mod Lines
 pub mod Turns
-pub mod Alike
 pub mod Division

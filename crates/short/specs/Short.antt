@@ -1,5 +1,5 @@
 -- What a short kernel means: the standard tables of a length from 3 to 9. Assumes nothing.
-use Rattle.std.specs.Prelude.{ℕ, ◌*◌, ◌^◌, cond, [], ◌∷◌, pos, Some, None, slice_index}
+use Rattle.std.specs.Prelude.{ℕ, ◌*◌, ◌^◌, if◌then◌else◌, [], ◌∷◌, pos, Some, None, slice_index}
 use Rattle.kernel.specs.declared.fault.Layer.TheVariants.{Short}
 use Rattle.kernel.specs.declared.fault.Unfit.TheVariants.{NoShortKernel}
 use Rattle.kernel.specs.Meaning.{Meaning}
@@ -34,7 +34,7 @@ unfit_short N = record {
 }
 
 abbrev pub short : ℕ → ℕ → Meaning
-short N count = cond (is_short N) (fit_short N count) (unfit_short N)
+short N count = if is_short N then fit_short N count else unfit_short N
 
 -- the direct kernel makes a product for each reading in each bin
 abbrev pub direct : ℕ → Meaning

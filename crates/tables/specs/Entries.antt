@@ -1,6 +1,6 @@
 -- The tables of lengths 3 to 9 at two scales: each entry is the scale times a cosine or a sine, to the nearest whole number.
 -- Assumes nothing.
-use Rattle.std.specs.Prelude.{ℕ, ◌-◌, ◌*◌, ◌%◌, ◌^◌, min, Bool, cond, ◌&&◌, List, [], ◌∷◌, map, ℤ, pos, neg_ℤ, nat_le, slice_index_or}
+use Rattle.std.specs.Prelude.{ℕ, ◌-◌, ◌*◌, ◌%◌, ◌^◌, min, Bool, if◌then◌else◌, ◌&&◌, List, [], ◌∷◌, map, ℤ, pos, neg_ℤ, nat_le, slice_index_or}
 use Rattle.std.specs.List.{range_with_len}
 use Rattle.kernel.specs.Bins.{Tables}
 use Rattle.tables.specs.declared.scale.Scale.{Scale}
@@ -69,7 +69,7 @@ evenly N half m = slice_index_or half (min m (N - m)) (pos 0)
 
 -- S(N - m) = -S(m)
 abbrev pub oddly : ℕ → List ℤ → ℕ → ℤ
-oddly N half m = cond (nat_le (2 * m) N) (slice_index_or half m (pos 0)) (neg_ℤ (slice_index_or half (N - m) (pos 0)))
+oddly N half m = if nat_le (2 * m) N then slice_index_or half m (pos 0) else neg_ℤ (slice_index_or half (N - m) (pos 0))
 
 -- the entries of length N at every m, with period N
 unfoldable pub C : Scale → ℕ → ℕ → ℤ
@@ -89,4 +89,4 @@ tables_of s N = record { N = N; C = C s N; S = S s N }
 
 -- the first N entries of a table, or none where no short table has the length
 unfoldable pub row_of : (ℕ → ℕ → ℤ) → ℕ → List ℤ
-row_of table N = cond (is_short N) (map (table N) (range_with_len 0 N)) []
+row_of table N = if is_short N then map (table N) (range_with_len 0 N) else []
