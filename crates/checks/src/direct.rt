@@ -1,23 +1,11 @@
-use crate::transforms::{EXAMPLES, gives, refuses};
-use kernel::{Kernel, KernelFault, Layer, Told, Unfit};
+use crate::transforms::{gives, gives_examples, refuses, unfit_lengths};
+use kernel::{KernelFault, Layer, Unfit};
 use short::Direct;
 use std::test::Fail;
 
 #[test]
 fn worked_examples(rt: HostRuntime) -> Result<(), Fail> {
-    for example in &EXAMPLES {
-        let mut image = vec![in rt.alloc(); 9; example.block.len()]?;
-        let kernel = Direct::new(example.block.len());
-        gives(
-            &rt,
-            &kernel,
-            example.block,
-            example.bins,
-            example.direct,
-            &mut image,
-        )?;
-    }
-    Ok(())
+    gives_examples(&rt, Direct::new, [9, 16, 25, 36, 49, 64, 81])
 }
 
 #[test]
@@ -80,28 +68,7 @@ fn readings_up_to_the_limit(rt: HostRuntime) -> Result<(), Fail> {
 
 #[test]
 fn other_lengths_are_unfit(rt: HostRuntime) -> Result<(), Fail> {
-    for length in [0, 1, 2, 10, usize::MAX] {
-        let unfit = Unfit::NoShortKernel(u64::try_from(length)?);
-        assert_eq!(rt;
-            Direct::new(length).tell(),
-            Told {
-                fault: Some(unfit),
-                length: 0,
-                gain: 0,
-                limit: 0,
-                scale: 0,
-                count: 0
-            }
-        );
-        refuses(
-            &rt,
-            &Direct::new(length),
-            &[1, 2],
-            &mut [4; 2],
-            KernelFault::Unfit(unfit),
-        );
-    }
-    Ok(())
+    unfit_lengths(&rt, Direct::new)
 }
 
 #[test]

@@ -1,5 +1,5 @@
-use crate::transforms::{EXAMPLES, gives, refuses};
-use kernel::{Kernel, KernelFault, Layer, Unfit};
+use crate::transforms::{gives_examples, refuses, unfit_lengths};
+use kernel::{Kernel, KernelFault, Layer};
 use short::{Direct, Fast};
 use std::array;
 use std::process::Abort;
@@ -7,19 +7,7 @@ use std::test::Fail;
 
 #[test]
 fn fast_worked_examples(rt: HostRuntime) -> Result<(), Fail> {
-    for example in &EXAMPLES {
-        let mut image = vec![in rt.alloc(); 9; example.block.len()]?;
-        let kernel = Fast::new(example.block.len());
-        gives(
-            &rt,
-            &kernel,
-            example.block,
-            example.bins,
-            example.fast,
-            &mut image,
-        )?;
-    }
-    Ok(())
+    gives_examples(&rt, Fast::new, [2, 0, 5, 4, 8, 2, 10])
 }
 
 // The fast kernel writes what the direct one does, and each answers the count that it tells.
@@ -88,17 +76,7 @@ fn table_of_blocks(rt: HostRuntime) -> Result<(), Fail> {
 
 #[test]
 fn fast_refuses_as_the_direct_kernel(rt: HostRuntime) -> Result<(), Fail> {
-    for length in [0, 1, 2, 10, usize::MAX] {
-        let unfit = Unfit::NoShortKernel(u64::try_from(length)?);
-        assert_eq!(rt; Fast::new(length).tell().fault, Some(unfit));
-        refuses(
-            &rt,
-            &Fast::new(length),
-            &[1, 2],
-            &mut [4; 2],
-            KernelFault::Unfit(unfit),
-        );
-    }
+    unfit_lengths(&rt, Fast::new)?;
     refuses(
         &rt,
         &Fast::new(4),

@@ -100,7 +100,7 @@ impl Inputs<'_> {
         }
     }
 
-    // Writes all bins of the block, and answers the count of products.
+    // Writes all bins of the block, and answers the count of products. The length of the caller's image is asked, as in `bins`.
     fn sums(&self, image: &mut [i64]) -> usize
         requires room { size image.old ≡ size self.now.x.now }
         ensures made { result ≡ size self.now.x.now * size self.now.x.now }

@@ -39,7 +39,7 @@ impl TryFrom<usize> for Algorithm {
     }
 }
 
-// Writes the bins, and answers their count of products.
+// Writes the bins, and answers their count of products. The length of the caller's image is asked, as in `bins`.
 fn put<const N: usize>(answer: (usize, [i64; N]), image: &mut [i64]) -> usize
     requires room { size image.old ≡ N }
     ensures made { result ≡ answer.entry.0 }

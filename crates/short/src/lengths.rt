@@ -7,9 +7,9 @@ use crate::inputs::Inputs;
 use crate::product::product;
 use crate::turn::{divided, turned};
 
-// The algorithm of each length: the count of its products, and the bins. Each asks for its own length, since the length of a block is
-// known at run time only. cos[0] is the scale. Counted are the products that `product`
-// makes; beside them there is only scaling, doubling and exact division.
+// The algorithm of each length: the count of its products, and the bins. cos[0] is the scale. Counted are the products that `product`
+// makes; beside them there is only scaling, doubling and exact division. Each asks for its own length: a length in the type would need
+// a second struct, with the same fact, for the direct kernel, whose length is known at run time only.
 impl Inputs<'_> {
     // Length 3, by two products.
     pub(crate) fn three(&self) -> (usize, [i64; 3])

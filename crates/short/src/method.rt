@@ -29,7 +29,8 @@ pub(crate) trait Method: TryFrom<usize, Error = Unfit> {
     fn products(self) -> usize
         ensures { result ≡ count (serves self) };
 
-    // Writes all bins of the block, and answers the count of products.
+    // Writes all bins of the block, and answers the count of products. Block and image are two callers' slices, so that they are of one
+    // length is asked and not in a type.
     fn bins(self, block: &[i64], image: &mut [i64]) -> usize
         requires whole { size block.now ≡ serves self }
         requires room { size image.old ≡ serves self }
