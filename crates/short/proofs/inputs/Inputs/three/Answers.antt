@@ -16,9 +16,6 @@ part = (cos 1 ⊖ cos 0) ⊗ sum
 abbrev last : Exp
 last = sin 1 ⊗ (x 1 ⊖ x 2)
 
-pub overflow_add-all : goal.overflow_add-all
-overflow_add-all c = fits c.args.self.now.ready (x 0 ⊕ sum) tt
-
 pub overflow_mul-all : goal.overflow_mul-all
 overflow_mul-all c = fits c.args.self.now.ready all tt
 
