@@ -22,13 +22,14 @@ fn transforms(rt: &HostRuntime) -> io::Result<()> {
 fn main(rt: HostRuntime) -> io::Result<()> {
     transforms(&rt)?;
     let unfit = introduce(&rt, "fast kernel", Fast::new(2))?;
-    attempt(&rt, &unfit, &[5, 7], &mut [0; 2])?;
-    refusals(
+    let _ = attempt(&rt, &unfit, &[5, 7], &mut [0; 2])?;
+    let _ = refusals(
         &rt,
         &introduce(&rt, "fast kernel of length 3", Fast::new(3))?,
     )?;
-    cancelling(
+    let _ = cancelling(
         &rt,
         &introduce(&rt, "fast kernel of length 7", Fast::new(7))?,
-    )
+    )?;
+    Ok(())
 }

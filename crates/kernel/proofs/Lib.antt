@@ -3,3 +3,4 @@ pub mod First
 pub mod Admitted
 pub mod Image
 pub mod Alike
+pub mod Opposite

@@ -1,8 +1,9 @@
 // What the programs print of a kernel.
 #![tactic(auto)]
 
-ghost use Rattle.std.specs.Prelude.{◌≡◌, ◌↔◌, length as size, IsTrue, IfOk};
+ghost use Rattle.std.specs.Prelude.{◌≡◌, ◌↔◌, map, length as size, replicate, pos, neg_ℤ, IsTrue, IfOk};
 ghost use Rattle.kernel.specs.Refusal.{answer_of, image_after};
+ghost use Rattle.report.specs.Shown.{limits, sample};
 ghost use Rattle.short.specs.Short.{direct, fast};
 
 use kernel::{Kernel, KernelFault};
@@ -45,18 +46,21 @@ fn show_answer(rt: &impl Print, name: &str, answer: Answer, image: &[i64]) -> io
     }
 }
 
-// Transforms a block by the kernel and prints what came of it. The image is then the block's, also where printing fails.
+// Transforms a block by the kernel, prints what came of it and gives the answer. The image is then the block's, also where printing
+// fails.
 pub fn attempt<K: Kernel>(
     rt: &impl Print,
     kernel: &K,
     block: &[i64],
     image: &mut [i64],
-) -> io::Result<()>
-    ensures { image.new ≡ image_after (K.meaning kernel.now) block.now image.old }
+) -> io::Result<Answer>
+    ensures answers { IfOk result (λ answer. answer ≡ answer_of (K.meaning kernel.now) block.now (size image.old)) }
+    ensures writes { image.new ≡ image_after (K.meaning kernel.now) block.now image.old }
 {
     let answer = kernel.transform(block, image);
     show_block(rt, block)?;
-    show_answer(rt, "bins", answer, image)
+    show_answer(rt, "bins", answer, image)?;
+    Ok(answer)
 }
 
 // Transforms a block by the direct and by the fast kernel of its length: both answers, and whether the images are equal. Images that
@@ -86,23 +90,32 @@ pub fn compare(rt: &impl Print, block: &[i64], one: &mut [i64], other: &mut [i64
     println!(rt; "  the bins agree: {same}")
 }
 
-// What a kernel of length 3 refuses, of each kind, and the largest reading that it takes.
-pub fn refusals<K: Kernel>(rt: &impl Print, kernel: &K) -> io::Result<()> {
-    attempt(rt, kernel, &[1, 2], &mut [0; 3])?;
-    attempt(rt, kernel, &[1, 2, 3], &mut [0; 4])?;
-    attempt(rt, kernel, &[0, 1 << 40, 0], &mut [0; 3])?;
-    attempt(rt, kernel, &[0, (1 << 40) + 1, 0], &mut [0; 3])?;
-    attempt(rt, kernel, &[0, 0, i64::MIN], &mut [0; 3])
+// What a kernel of length 3 refuses, of each kind, and the largest reading that it takes: its answers.
+pub fn refusals<K: Kernel>(rt: &impl Print, kernel: &K) -> io::Result<[Answer; 5]>
+    ensures { IfOk result (λ answers. answers ≡ limits (K.meaning kernel.now)) }
+{
+    Ok([
+        attempt(rt, kernel, &[1, 2], &mut [0; 3])?,
+        attempt(rt, kernel, &[1, 2, 3], &mut [0; 4])?,
+        attempt(rt, kernel, &[0, 1 << 40, 0], &mut [0; 3])?,
+        attempt(rt, kernel, &[0, (1 << 40) + 1, 0], &mut [0; 3])?,
+        attempt(rt, kernel, &[0, 0, i64::MIN], &mut [0; 3])?,
+    ])
 }
 
-// The bins of a block and of its negative cancel, whatever the block: here by a kernel of length 7.
-pub fn cancelling<K: Kernel>(rt: &impl Print, kernel: &K) -> io::Result<()> {
+// The bins of a block of length 7 and of its negative, which cancel, whatever the kernel.
+pub fn cancelling<K: Kernel>(rt: &impl Print, kernel: &K) -> io::Result<([i64; 7], [i64; 7])>
+    ensures bins { IfOk result (λ images. images.0 ≡ image_after (K.meaning kernel.now) sample (replicate 7 (pos 0))) }
+    ensures cancel { IfOk result (λ images. images.1 ≡ map neg_ℤ images.0) }
+{
     let mut bins = [0; 7];
     let mut others = [0; 7];
-    attempt(rt, kernel, &[-3, 14, 1, -59, 26, 5, 35], &mut bins)?;
-    attempt(rt, kernel, &[3, -14, -1, 59, -26, -5, -35], &mut others)?;
-    for (bin, other) in bins.iter_mut().zip(&others) {
-        *bin = bin.saturating_add(*other);
+    let _ = attempt(rt, kernel, &[-3, 14, 1, -59, 26, 5, 35], &mut bins)?;
+    let _ = attempt(rt, kernel, &[3, -14, -1, 59, -26, -5, -35], &mut others)?;
+    let mut together = bins;
+    for (sum, other) in together.iter_mut().zip(&others) {
+        *sum = sum.saturating_add(*other);
     }
-    println!(rt; "  together  {bins:?}")
+    println!(rt; "  together  {together:?}")?;
+    Ok((bins, others))
 }

@@ -20,9 +20,11 @@ pub struct Sums {
 }
 
 impl TryFrom<usize> for Sums {
+    ghost use Rattle.short.specs.Kernels.{sums_length};
+
     type Error = Unfit;
 
-    ghost try_from_gives = { Chosen (λ sums. sums.length) };
+    ghost try_from_gives = { Chosen sums_length };
 
     fn try_from(length: usize) -> Result<Sums, Unfit> {
         if is_short(length) {
@@ -34,7 +36,9 @@ impl TryFrom<usize> for Sums {
 }
 
 impl Method for Sums {
-    ghost serves = { λ sums. sums.length };
+    ghost use Rattle.short.specs.Kernels.{sums_length};
+
+    ghost serves = { sums_length };
 
     ghost count = { λ N. N * N };
 

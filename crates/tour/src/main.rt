@@ -13,7 +13,8 @@ use std::io;
 fn show(rt: &HostRuntime, kernel: &Direct, block: &[i64], image: &mut [i64]) -> io::Result<()>
     ensures { image.new ≡ image_after (direct (short_length kernel.now)) block.now image.old }
 {
-    attempt(rt, kernel, block, image)
+    let _ = attempt(rt, kernel, block, image)?;
+    Ok(())
 }
 
 // Makes the direct kernel of a length, and prints what it tells.
@@ -36,6 +37,7 @@ fn transforms(rt: &HostRuntime) -> io::Result<()> {
 fn main(rt: HostRuntime) -> io::Result<()> {
     transforms(&rt)?;
     show(&rt, &make(&rt, 2)?, &[5, 7], &mut [0; 2])?;
-    refusals(&rt, &make(&rt, 3)?)?;
-    cancelling(&rt, &make(&rt, 7)?)
+    let _ = refusals(&rt, &make(&rt, 3)?)?;
+    let _ = cancelling(&rt, &make(&rt, 7)?)?;
+    Ok(())
 }
