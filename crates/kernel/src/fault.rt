@@ -1,9 +1,11 @@
 ghost use Rattle.std.specs.Prelude.{◌≡◌, Some};
 ghost use Rattle.kernel.specs.declared.fault.KernelFault.TheVariants.{Unfit as UnfitFault};
 
-use crate::code::Code;
 use std::error::Error;
 use std::fmt;
+
+// What a fault tells a person or a program, also by this path.
+pub use crate::code::Code;
 
 // The layer where a kernel's fault arose.
 #[derive(Clone, Copy, PartialEq, Eq, Debug)]

@@ -1,5 +1,5 @@
 -- The room that the standard tables leave, and what a short kernel takes. Assumes nothing.
-use Rattle.std.proofs.Common.{◌≡◌, ℕ, ◌≤◌, Bool, true, false, cond, List, length, ℤ, nat_abs, Ok, sym, ap, ◌∙◌, subst, lit≤}
+use Rattle.std.proofs.Common.{◌≡◌, ℕ, ◌≤◌, Bool, true, false, cond, List, length, ℤ, nat_abs, Ok, sym, refl, ap, ◌∙◌, subst, lit≤}
 use Rattle.std.proofs.lemmas.Option.{none-some}
 use Rattle.algebra.specs.Units.{Units}
 use Rattle.kernel.specs.declared.fault.Layer.{Layer}
@@ -20,13 +20,19 @@ use Rattle.short.specs.Short.{short_limit, fit_short, unfit_short, short}
 pub standard_units : Units (scale_of Standard) short_limit
 standard_units = record { entry = lit≤ tt; reading = lit≤ tt; both = lit≤ tt }
 
--- the readings of a block that a short kernel admits
-pub taken : (N count : ℕ) (t : Told) (layer : Layer) (r : List ℤ) (k : ℕ) (y : Unit {0}) → t ≡ told (short N count) → Ok y ≡ answered tt (refused t layer r k) → Small short_limit r
-taken N count t layer r k y is e = go (is_short N) (subst (λ t. Admitted t r k) is (admitted t layer r k (not_refused tt y (refused t layer r k) e)))
+-- what a short kernel admits
+pub record Taken (N : ℕ) (r : List ℤ) (k : ℕ) : Type 0 where
+  pub short : is_short N ≡ true
+  pub block : length r ≡ N
+  pub image : k ≡ N
+  pub readings : Small short_limit r
+
+pub taken : (N count : ℕ) (t : Told) (layer : Layer) (r : List ℤ) (k : ℕ) (y : Unit {0}) → t ≡ told (short N count) → Ok y ≡ answered tt (refused t layer r k) → Taken N r k
+taken N count t layer r k y is e = go (is_short N) refl (subst (λ t. Admitted t r k) is (admitted t layer r k (not_refused tt y (refused t layer r k) e)))
   where
-    go : (b : Bool) → Admitted (told (cond b (fit_short N count) (unfit_short N))) r k → Small short_limit r
-    go true a = a.readings
-    go false a = absurd (none-some _ (sym a.fit))
+    go : (b : Bool) → is_short N ≡ b → Admitted (told (cond b (fit_short N count) (unfit_short N))) r k → Taken N r k
+    go true s a = record { short = s; block = a.block; image = a.image; readings = a.readings }
+    go false s a = absurd (none-some _ (sym a.fit))
 
 -- no entry of a table, and so none of a row, is larger in size than the scale
 pub entry_small : (t : Table) (s : Scale) (N : ℕ) → is_short N ≡ true → (m : ℕ) → nat_abs (entries t s N m) ≤ scale_of s

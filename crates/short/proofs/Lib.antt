@@ -5,3 +5,4 @@ pub mod Related
 pub mod Lines
 pub mod Turns
 pub mod Division
+pub mod Alike

@@ -151,7 +151,7 @@ module _ {s : Scale} {L : ℕ} {r cosines sines : List ℤ} (ready : Ready s L r
       ∙ get_or-map-range_with_len (λ n. Σ 3 (λ k. reading (outputs ρ es) ((n + k) % 3) *ℤ reading (outputs ρ ts) k)) 0 3 n n (pos 0) h (omega arith)
       ∙ simp (add-zero, output_at es t, output_at ts u, +ℤ_idl)
 
-  abbrev turn_known : (es ts : List Exp) (n : ℕ) {count : ℕ} {p : ℕ × List ℤ} → n < 3 → T (all_roomy sizes es) → T (all_roomy sizes ts) → T (roomy sizes (turn_of es ts n))
+  abbrev pub turn_known : (es ts : List Exp) (n : ℕ) {count : ℕ} {p : ℕ × List ℤ} → n < 3 → T (all_roomy sizes es) → T (all_roomy sizes ts) → T (roomy sizes (turn_of es ts n))
       → p ≡ (count, turns (outputs ρ es) (outputs ρ ts)) → Known ρ sizes
   turn_known es ts n {count} {p} h t u room is = record { number = reading p.1 n; term = turn_of es ts n; is = turned_is es ts t u is n h; room = room }
 

@@ -1,5 +1,5 @@
 -- What leaves room in a word, and what inner steps of a transform work out: for the contracts of inner functions only. Assumes nothing.
-use Rattle.std.specs.Prelude.{◌≡◌, ℕ, ◌+◌, ◌*◌, ◌%◌, ◌<◌, ◌≤◌, true, List, map, length, ℤ, ◌*ℤ◌, unsigned_abs}
+use Rattle.std.specs.Prelude.{◌≡◌, ℕ, ◌+◌, ◌*◌, ◌%◌, ◌^◌, ◌<◌, ◌≤◌, true, List, map, length, ℤ, ◌*ℤ◌, unsigned_abs}
 use Rattle.std.specs.List.{range_with_len}
 use Rattle.algebra.specs.Sums.{Σ}
 use Rattle.algebra.specs.Units.{Units}
@@ -10,6 +10,17 @@ use Rattle.tables.specs.Entries.{scale_of, is_short, row_of, C, S}
 -- no number of the list is larger in size than b
 abbrev pub Small : ℕ → List ℤ → Type 0
 Small b r = (k : ℕ) → k < length r → unsigned_abs (reading r k) ≤ b
+
+-- a block with readings up to L and a row with entries up to g, of one length up to 9: their products and the sum of these have
+-- room in a word
+pub record Matched (L g : ℕ) (r row : List ℤ) : Type 0 where
+  pub lengths : length r ≡ length row
+  pub few : length r ≤ 9
+  pub L_room : L < 2 ^ 63
+  pub g_room : g < 2 ^ 63
+  pub room : L * g ≤ 2 ^ 54
+  pub readings : Small L r
+  pub entries : Small g row
 
 -- a block of a short length with readings up to L, and the rows of cosines and of sines of that length at a scale: hundreds of
 -- entries, of readings and of their products have room in a word

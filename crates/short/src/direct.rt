@@ -12,6 +12,9 @@ use crate::product::product;
 use kernel::Unfit;
 use tables::{Table, is_short};
 
+// The kernel over these sums, also by this path.
+pub use crate::short_kernel::Direct;
+
 // The sums of a short length as they are written.
 #[derive(Clone, Copy)]
 pub struct Sums {

@@ -7,6 +7,9 @@ use crate::inputs::Inputs;
 use crate::method::{Method, no_short_kernel};
 use kernel::Unfit;
 
+// The kernel over these algorithms, also by this path.
+pub use crate::short_kernel::Fast;
+
 // The algorithm of each length from 3 to 9, by few products.
 #[derive(Clone, Copy)]
 pub enum Algorithm {

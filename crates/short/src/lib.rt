@@ -1,8 +1,8 @@
 // Kernels of lengths 3 to 9 over the standard tables.
 #![tactic(auto)]
 
-mod direct;
-mod fast;
+pub mod direct;
+pub mod fast;
 mod figures;
 mod inputs;
 mod lengths;

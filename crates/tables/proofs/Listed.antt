@@ -41,32 +41,36 @@ listed t (suc (suc (suc (suc (suc (suc (suc (suc zero)))))))) = refl
 listed t (suc (suc (suc (suc (suc (suc (suc (suc (suc zero))))))))) = refl
 listed t (suc (suc (suc (suc (suc (suc (suc (suc (suc (suc n)))))))))) = sym (row_none t (suc (suc (suc (suc (suc (suc (suc (suc (suc (suc n)))))))))) (grind (arith, nat_tests)))
 
--- the row of a table, from the rows as the code lists them
+-- the row of a table at scale s, from the rows as the code lists them at scale u, where s is u
+pub row_of_lem : (t : Scale → ℕ → ℕ → ℤ) (s u : Scale) (N : ℕ) (row : List ℤ) → row ≡ get_or (rows_of (t u)) N [] → s ≡ u → row ≡ row_of (t s) N
+row_of_lem t s u N row e is = e ∙ listed (t u) N ∙ ap (λ v. row_of (t v) N) (sym is)
+
+-- the same where the table is u
 pub row_is : {t u : Table} {s v : Scale} (N : ℕ) {row : List ℤ} → t ≡ u → s ≡ v → row ≡ get_or (rows_of (entries u v)) N [] → row ≡ row_of (entries t s) N
-row_is {t} {u} {s} {v} N t_is s_is e = rw (t_is, s_is) (e ∙ listed (entries u v) N)
+row_is {t} {u} {s} {v} N {row} t_is s_is e = rw t_is (row_of_lem (entries u) s v N row e s_is)
 
 pub period : (t : Table) (s : Scale) (N m : ℕ) → entries t s N (m % N) ≡ entries t s N m
 unfolding C S
 period Cosines s N m = rw mod-mod
 period Sines s N m = rw mod-mod
 
--- entry m of a row, round its end
-module _ (t : Table) (s : Scale) (N m : ℕ) {row : List ℤ} (e : row ≡ row_of (entries t s) N) where
-  pub entry_none : (0 < length row → ⊥) → None ≡ cond (is_short N) (Some (entries t s N m)) None
+-- entry m of a row, round its end, where the table has the row's period
+module _ (table : ℕ → ℕ → ℤ) (N m : ℕ) (round : table N (m % N) ≡ table N m) {row : List ℤ} (e : row ≡ row_of table N) where
+  pub entry_none : (0 < length row → ⊥) → None ≡ cond (is_short N) (Some (table N m)) None
   entry_none none = go (is_short N) refl
     where
-      go : (b : Bool) → is_short N ≡ b → None ≡ cond b (Some (entries t s N m)) None
-      go true d = absurd (none (rw (e, row_length (entries t s) N d) (omega (arith, (bounds N d).0))))
+      go : (b : Bool) → is_short N ≡ b → None ≡ cond b (Some (table N m)) None
+      go true d = absurd (none (rw (e, row_length table N d) (omega (arith, (bounds N d).0))))
       go false d = refl
 
-  pub entry_some : 0 < length row → Some (get_or row (m % length row) (pos 0)) ≡ cond (is_short N) (Some (entries t s N m)) None
+  pub entry_some : 0 < length row → Some (get_or row (m % length row) (pos 0)) ≡ cond (is_short N) (Some (table N m)) None
   entry_some some = go (is_short N) refl
     where
-      go : (b : Bool) → is_short N ≡ b → Some (get_or row (m % length row) (pos 0)) ≡ cond b (Some (entries t s N m)) None
+      go : (b : Bool) → is_short N ≡ b → Some (get_or row (m % length row) (pos 0)) ≡ cond b (Some (table N m)) None
       go true d =
-          let l : length row ≡ N = ap length e ∙ row_length (entries t s) N d in
+          let l : length row ≡ N = ap length e ∙ row_length table N d in
           let at : m % N < N = mod-lt m {m = N} (omega (arith, (bounds N d).0)) in
-          rw (l, e, row_at (entries t s) N d (m % N) at, period t s N m)
+          rw (l, e, row_at table N d (m % N) at, round)
       go false d =
-          let none : length row ≡ 0 = rw (e, row_none (entries t s) N d) in
+          let none : length row ≡ 0 = rw (e, row_none table N d) in
           absurd (omega arith)
