@@ -73,6 +73,10 @@ module _ {s : Scale} {L : ℕ} {r cosines sines : List ℤ} (ready : Ready s L r
       let at = mod-lt (n * k) {m = length r} (omega (arith, (bounds (length r) ready.short).0)) in
       rw (whole is, is) (ap (λ x. reading r k *ℤ x) (row_at (entries t s) (length r) ready.short (n * k % length r) at))
 
+  -- the sum over the table's row is the sum over the table
+  over_row : {row : List ℤ} → row ≡ row_of (entries t s) (length r) → (j : ℕ) → Σ j (term r row n) ≡ Σ j (table_term t s r n)
+  over_row {row} is j = Σ_cong j (term r row n) (table_term t s r n) (λ i h. entry_is is i)
+
   pub table_made : {row : List ℤ} (k at : ℕ) → row ≡ row_of (entries t s) (length r) → k < length r → at ≡ n * k % length r
       → SFits w64 (word (reading r k) *ℤ word (reading row at)) × (word (reading r k) *ℤ word (reading row at) ≡ table_term t s r n k)
   table_made {row} k at is l e =
@@ -83,13 +87,12 @@ module _ {s : Scale} {L : ℕ} {r cosines sines : List ℤ} (ready : Ready s L r
       → sum ≡ Σ k (table_term t s r n) → p ≡ (count, word (reading r k) *ℤ word (reading row at))
       → SFits w64 (sum +ℤ word p.1) × (word (sum +ℤ word p.1) ≡ Σ (k + 1) (table_term t s r n))
   table_added {row} k at count sum p is l e es ep =
-      let same : (j : ℕ) → Σ j (term r row n) ≡ Σ j (table_term t s r n) = λ j. Σ_cong j (term r row n) (table_term t s r n) (λ i h. entry_is is i) in
-      let a = added L (scale_of s) r row n (matched is) k at count sum p l (rw (whole is) e) (es ∙ sym (same k)) ep in
-      (a.0, a.1 ∙ same (k + 1))
+      let a = added L (scale_of s) r row n (matched is) k at count sum p l (rw (whole is) e) (es ∙ sym (over_row is k)) ep in
+      (a.0, a.1 ∙ over_row is (k + 1))
 
   table_small : nat_abs (Σ (length r) (table_term t s r n)) ≤ 2 ^ 60
   table_small =
-      rw (← Σ_cong (length r) (term r (row_of (entries t s) (length r)) n) (table_term t s r n) (λ i h. entry_is refl i))
+      rw (← over_row {row = row_of (entries t s) (length r)} refl (length r))
       (whole_small L (scale_of s) r (row_of (entries t s) (length r)) n (matched refl))
 
 -- what `weigh` answers over the cosines is a lower bin, and over the sines, negated in a word, an upper one
